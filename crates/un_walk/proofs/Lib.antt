@@ -1,0 +1,5 @@
+pub mod Once
+pub mod Growing
+pub mod LinkTests
+pub mod Walked
+pub mod DirtMet

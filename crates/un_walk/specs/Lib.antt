@@ -1,0 +1,5 @@
+pub mod Dirt
+pub mod EachOnce
+pub mod Entries
+pub mod Growth
+pub mod Ticks

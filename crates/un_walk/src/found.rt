@@ -1,0 +1,77 @@
+//! The nodes that a walk has found, each once, in the order in which they were found.
+
+ghost use Rattle.std.specs.Prelude.{◌≡◌, ℕ, ◌<◌, List, [], length, slice_get, Some, OnOk, OnErr, IfOk};
+ghost use Rattle.std.specs.List.Sorted.{IsPermutation, IsStrictlySortedBy};
+ghost use Rattle.un_defs.specs.Orders.{node_cmp};
+ghost use Rattle.un_walk.specs.Growth.{with_node};
+
+use std::alloc::{AllocError, Global};
+use std::collections::HashSet;
+use std::marker::Model;
+use un_defs::Node;
+use un_defs::port::Nodes;
+
+/// A list of distinct nodes that knows at once whether it has a node.
+#[derive(Drop)]
+pub(crate) struct Found {
+    seen: HashSet<Node>,
+    order: Vec<Node>,
+}
+
+impl Model for Found {
+    ghost use Rattle.std.specs.Prelude.{List};
+    ghost use Rattle.un_defs.specs.declared.port.Node.{Node};
+    ghost use Rattle.un_walk.specs.EachOnce.{IsEachOnce};
+
+    ghost Value = { List Node };
+
+    ghost view = { λ f. f.order.items };
+
+    ghost invariant = { λ f. IsEachOnce f.seen.keys f.order.items };
+}
+
+impl Found {
+    pub(crate) fn new(alloc: Global) -> Self
+        ensures { result ≡ [] }
+    {
+        Found {
+            seen: HashSet::new(alloc),
+            order: Vec::new(alloc),
+        }
+    }
+
+    pub(crate) fn len(&self) -> usize
+        ensures { result ≡ length self.now }
+    {
+        self.order.len()
+    }
+
+    pub(crate) fn at(&self, place: usize) -> Node
+        requires { place < length self.now }
+        ensures { slice_get self.now place ≡ Some result }
+    {
+        self.order[place]
+    }
+
+    /// Adds the node at the end, unless it is there.
+    pub(crate) fn add(&mut self, node: Node) -> Result<(), AllocError>
+        ensures { OnOk result (self.new ≡ with_node self.old node) }
+    {
+        self.order.reserve(1)?;
+        if self.seen.insert(node)? {
+            self.order.push(node)?;
+        }
+        Ok(())
+    }
+
+    /// The nodes in rising order.
+    pub(crate) fn into_rising(self) -> Nodes
+        ensures rising { IsStrictlySortedBy node_cmp result }
+        ensures permutation { IsPermutation self result }
+    {
+        let Found { seen: _, order } = self;
+        let mut nodes = order;
+        nodes.sort_unstable();
+        Nodes::new(nodes)
+    }
+}

@@ -1,0 +1,48 @@
+//! What walks reach over any ground, and the dirt that they meet.
+//!
+//! # What is to be found
+//!
+//! A ground has a star at each point, which tells the links of the nodes there, and dirty areas. A walk begins at a start and goes from node
+//! to node by links that its mode takes: any link, those by which flow leaves, or those by which it comes in. It may end in a barrier, and in
+//! a dirty node, but goes on from neither: a barrier is a node among the stops, or one whose entry meets the condition of the request or of
+//! the tier, and dirt stops a walk in consistent mode alone. In a walk with a tier a path between two terminals of a device is shut where
+//! either of them has a controller of that tier. Wanted are all nodes in which a walk ends, rising, and the least dirty area that covers one
+//! of them, with the least port that it covers there.
+//!
+//! # How it is found
+//!
+//! [`walk::reach`] keeps the nodes found so far as a list without repeats ([`found::Found`]): first the starts, then each further node as it
+//! is found. It takes the nodes of the list in order. Of each it asks the ground for the least dirty area and, if a walk may go on from it,
+//! for its star once ([`walk::visit`]); then it adds what the node's links lead to, unless the list has it ([`ways::follow`]). It is done once
+//! it has taken the last node. The dirt is kept on the way: the least so far, by area, then port ([`dirt::dirt_after`]).
+//!
+//! # Why that is enough
+//!
+//! Three facts hold before each node is taken. Each node of the list is reached, since it is a start or a link leads to it from a node of the
+//! list that is open. Each start is in the list. Each node to which a walk goes on from a node that was taken is in the list. When all have
+//! been taken, the third fact says that no walk leaves the list, so it has exactly the reached nodes. A set beside the list tells at once
+//! whether it has a node, and at the end the list is sorted.
+//!
+//! A set of the ground's nodes is not known to be finite, but a list in memory has fewer than 2^64 nodes, so it comes to an end, or to the
+//! end of memory.
+//!
+//! The least area that covers a reached node is the least of the least areas at the nodes' points, and a node that it covers has it as its
+//! own least area. So the least pair of a node's least area and its port names both.
+//!
+//! # What it costs
+//!
+//! One look-up of an area and at most one of a star for each node that is reached, and one look-up in a hash set for each link of an open
+//! node that the mode takes. Only where a tier is asked for and a path leads to another point is one more star looked up. Sorting the nodes
+//! takes n log n comparisons.
+#![tactic(auto)]
+
+mod dirt;
+mod entries;
+mod found;
+pub mod walk;
+mod ways;
+
+pub use walk::{Reached, reach};
+
+#[cfg(test)]
+mod tests;

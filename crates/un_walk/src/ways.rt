@@ -1,0 +1,131 @@
+//! The links by which a walk goes on from a node.
+
+ghost use Rattle.std.specs.Prelude.{◌≡◌, ◌&&◌, ◌⊎◌, not, Some, None, IsTrue, OnOk};
+ghost use Rattle.std.specs.List.{list_any};
+ghost use Rattle.un_geom.specs.Places.{same_point};
+ghost use Rattle.un_defs.specs.Ground.{entry, ties};
+ghost use Rattle.un_defs.specs.Reach.{mode_takes, is_path, is_shut, controls, goes_by};
+ghost use Rattle.un_walk.specs.Growth.{Grows};
+ghost use Rattle.un_walk.specs.Ticks.{TiesStay, TieStays};
+
+use crate::entries::is_controlled;
+use crate::found::Found;
+use std::alloc::AllocError;
+use un_defs::{Barriers, Ground, LinkName, Mode, Node, Spot, Star, Tie};
+use un_geom::Point;
+use un_steps::Steps;
+
+/// Where a walk stands: a node, the star at its point, and the entry that the star has for it.
+#[derive(Clone, Copy)]
+pub(crate) struct Place<'a> {
+    pub(crate) node: Node,
+    pub(crate) star: &'a Star,
+    pub(crate) spot: &'a Spot,
+}
+
+fn mode_takes(mode: Mode, tie: &Tie) -> bool
+    ensures { result ≡ mode_takes mode tie.now }
+{
+    match mode {
+        Mode::Any => true,
+        Mode::Along => tie.out,
+        Mode::Against => tie.back,
+    }
+}
+
+fn is_path(name: LinkName) -> bool
+    ensures { result ≡ is_path name }
+{
+    matches!(name, LinkName::Path { .. })
+}
+
+fn is_same_point(a: Point, b: Point) -> bool
+    ensures { result ≡ same_point a b }
+{
+    a == b
+}
+
+/// The node at the other end of a link has a controller of the tier. A node at the same point is in the same star.
+fn is_far_end_controlled<G: Ground, L>(
+    over: &G,
+    place: &Place,
+    to: Node,
+    tier: u8,
+    steps: &mut Steps<L>,
+) -> bool
+    requires { place.now.star.now ≡ (G.stars_and_areas over.now).stars place.now.node.at }
+    ensures controlled { result ≡ controls (G.stars_and_areas over.now) tier to }
+    ensures here { to.at ≡ place.now.node.at → steps.new ≡ steps.old }
+{
+    if is_same_point(to.at, place.node.at) {
+        return is_controlled(place.star, to.port, tier);
+    }
+    steps.tick();
+    match over.star(to.at) {
+        Some(star) => is_controlled(star, to.port, tier),
+        None => false,
+    }
+}
+
+/// The link is a path, and one of its two terminals has a controller of the tier.
+fn is_shut<G: Ground, L>(
+    over: &G,
+    place: &Place,
+    tie: &Tie,
+    barriers: &Barriers,
+    steps: &mut Steps<L>,
+) -> bool
+    requires { place.now.star.now ≡ (G.stars_and_areas over.now).stars place.now.node.at }
+    ensures shut { result ≡ is_shut (G.stars_and_areas over.now) barriers.now place.now.node tie.now }
+    ensures once { TieStays barriers.now place.now.node tie.now → steps.new ≡ steps.old }
+{
+    match barriers.tier {
+        Some(tier) if is_path(tie.name) => {
+            is_controlled(place.star, place.node.port, tier)
+                || is_far_end_controlled(over, place, tie.to, tier, steps)
+        }
+        _ => false,
+    }
+}
+
+/// A walk may go by the link: the mode takes it, and it is not shut.
+fn goes_by<G: Ground, L>(
+    over: &G,
+    place: &Place,
+    tie: &Tie,
+    mode: Mode,
+    barriers: &Barriers,
+    steps: &mut Steps<L>,
+) -> bool
+    requires { place.now.star.now ≡ (G.stars_and_areas over.now).stars place.now.node.at }
+    ensures goes { result ≡ (mode_takes mode tie.now
+        && not (is_shut (G.stars_and_areas over.now) barriers.now place.now.node tie.now)) }
+    ensures once { TieStays barriers.now place.now.node tie.now → steps.new ≡ steps.old }
+{
+    mode_takes(mode, tie) && !is_shut(over, place, tie, barriers, steps)
+}
+
+/// Adds the nodes to which the links of an open node lead.
+pub(crate) fn follow<G: Ground, L>(
+    over: &G,
+    place: &Place,
+    mode: Mode,
+    barriers: &Barriers,
+    found: &mut Found,
+    steps: &mut Steps<L>,
+) -> Result<(), AllocError>
+    requires star { place.now.star.now ≡ (G.stars_and_areas over.now).stars place.now.node.at }
+    requires entry { entry (G.stars_and_areas over.now) place.now.node ≡ Some place.now.spot.now }
+    ensures next { OnOk result (Grows found.old found.new
+        (λ m. list_any (goes_by (G.stars_and_areas over.now) barriers.now mode place.now.node m)
+        (ties (G.stars_and_areas over.now) place.now.node))) }
+    ensures once { TiesStay (G.stars_and_areas over.now) barriers.now place.now.node
+        → OnOk result (steps.new ≡ steps.old) }
+{
+    for tie in place.spot.ties.as_slice() {
+        if goes_by(over, place, tie, mode, barriers, steps) {
+            found.add(tie.to)?;
+        }
+    }
+    Ok(())
+}
