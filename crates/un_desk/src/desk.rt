@@ -1,0 +1,180 @@
+//! The desk: what threads share. Edits go one after another behind one lock, and reads go beside it.
+//!
+//! Each call of a desk takes the lock of the journal, so it may wait, and counts one wait for each session that it takes.
+//! Reading needs no desk: a session reads by itself, without the lock. What is behind the lock can't be named by a
+//! clause, since other threads change it before and after the call. But a journal's type says that its log is legal
+//! and leads to its state, and a session holds a beginning of the one log. So a clause says that there is a journal, with
+//! a legal log that begins with all that the session had seen, and of which the answer is true.
+ghost use Rattle.std.specs.Prelude.{◌≡◌, ◌⊎◌, ◌≤◌, ◌<◌, ◌∷◌, [], length, IfOk, IfErr, OnOk, OnErr};
+ghost use mathlib.Core.List.{IsPrefix};
+ghost use Rattle.std.specs.Arc.{arc_value};
+ghost use Rattle.un_machine.specs.Logs.{Reaches};
+ghost use Rattle.un_publish.specs.Models.{AreFresh};
+ghost use Rattle.un_journal.specs.Books.{IsPrepared};
+ghost use Rattle.un_desk.specs.Desks.{IsDeskFault, IsMeetFault, IsSubmitted, counted};
+ghost use Rattle.un_desk.specs.Views.{IsViewFault};
+
+use core::mem::ManuallyDrop;
+use std::alloc::Global;
+use std::sync::{Arc, Mutex, Wait};
+use un_journal::journal::Journal;
+use un_journal::receipt::{Ahead, Receipt};
+use un_machine::{Entry, Machine, Memory};
+use un_publish::board::Board;
+use un_publish::prefix::NewLog;
+use un_publish::published::{BoardName, Published, Snapshot};
+use un_publish::session::{Denied, Session, SessionFault, View};
+
+/// A journal that threads share. It is not `Drop`: end it by `close`.
+pub struct Desk<M: Machine, J: BoardName<M>>
+where
+    Published<M, J>: Snapshot<State = Published<M, J>>,
+{
+    journal: Mutex<ManuallyDrop<Journal<M, J>>>,
+}
+
+/// Why there is no view.
+#[derive(Drop)]
+pub enum ViewFault {
+    /// The log has fewer entries than were asked for. The session has then seen all of them.
+    Ahead(Ahead),
+    /// The session could not be taught: `NoCopy` or `Long`.
+    Denied(Denied),
+    Memory,
+}
+
+impl<M: Machine, J: BoardName<M>> Desk<M, J>
+where
+    Published<M, J>: Snapshot<State = Published<M, J>>,
+{
+    /// A desk whose log is empty, and so many sessions at it, which are numbered from 0 on. It waits for readers.
+    pub fn open<R: Wait>(
+        rt: &R,
+        alloc: Global,
+        new_log: NewLog<Entry<M>>,
+        state: M,
+        sessions: u32,
+    ) -> Result<(Desk<M, J>, Vec<Session<M, J>>), Memory>
+        requires count { (0 < sessions) × (sessions ≤ 64) }
+        requires book { new_log.seen.book ≡ J.book }
+        requires opening { J.opening ≡ state ∷ [] }
+        ensures { IfOk result (λ r. AreFresh sessions r.1.items) }
+    {
+        let Ok(state) = Arc::new(alloc, state) else {
+            return Err(Memory);
+        };
+        let Ok(other) = Arc::try_clone(&state) else {
+            return Err(Memory);
+        };
+        let (board, all) = Board::<M, J>::open(rt, alloc, new_log, other, sessions)?;
+        match Journal::<M, J>::open(alloc, board, state) {
+            Ok(journal) => {
+                // A journal can't be dropped, so `close` takes it out and ends it.
+                let journal = unsafe { ManuallyDrop::new_unchecked(journal) };
+                let desk = Desk {
+                    journal: Mutex::new(journal),
+                };
+                Ok((desk, all))
+            }
+            Err((_, board)) => {
+                board.close(rt);
+                Err(Memory)
+            }
+        }
+    }
+
+    /// Decides a command at the whole log, and adds it to the log where the machine's step is done. Either way the session
+    /// has then seen the whole log. At `Memory` and `Denied` nothing was committed, and the session may have seen more.
+    pub fn submit<R: Wait>(
+        &self,
+        rt: &R,
+        alloc: Global,
+        session: &mut Session<M, J>,
+        cmd: M::Cmd,
+    ) -> Result<Receipt<M>, SessionFault>
+        ensures receipt { IfOk result (IsSubmitted M.step J.opening session.old session.new cmd) }
+        ensures fault { IfErr result (IsDeskFault (counted session.old) session.new) }
+        ensures seen { IsPrefix session.old.seen session.new.seen }
+    {
+        session.count_wait();
+        let mut journal = self.journal.lock(rt);
+        journal.commit(rt, alloc, session, cmd, None)
+    }
+
+    /// The same, with work for this command that was done ahead, at a state that the session has seen.
+    pub fn submit_prepared<R: Wait>(
+        &self,
+        rt: &R,
+        alloc: Global,
+        session: &mut Session<M, J>,
+        cmd: M::Cmd,
+        hint: M::Hint,
+    ) -> Result<Receipt<M>, SessionFault>
+        requires { IsPrepared M.step M.prepared M.place J.opening session.old.seen hint }
+        ensures receipt { IfOk result (IsSubmitted M.step J.opening session.old session.new cmd) }
+        ensures fault { IfErr result (IsDeskFault (counted session.old) session.new) }
+        ensures seen { IsPrefix session.old.seen session.new.seen }
+    {
+        session.count_wait();
+        let mut journal = self.journal.lock(rt);
+        if let Err(denied) = journal.teach(session) {
+            return Err(SessionFault::Denied(denied));
+        }
+        journal.commit(rt, alloc, session, cmd, Some(hint))
+    }
+
+    /// Lets both sessions see the whole log at one moment. It takes no memory. `Denied` is `NoCopy` or `Long`.
+    pub fn meet<R: Wait>(
+        &self,
+        rt: &R,
+        a: &mut Session<M, J>,
+        b: &mut Session<M, J>,
+    ) -> Result<(), Denied>
+        ensures same { OnOk result (a.new.seen ≡ b.new.seen) }
+        ensures one { OnOk result (a.new ≡ record (counted a.old) { seen = a.new.seen }) }
+        ensures other { OnOk result (b.new ≡ record (counted b.old) { seen = b.new.seen }) }
+        ensures denied { IfErr result (IsMeetFault (counted a.old) a.new (counted b.old) b.new) }
+        ensures seen { IsPrefix a.old.seen a.new.seen }
+        ensures seen_by_other { IsPrefix b.old.seen b.new.seen }
+    {
+        a.count_wait();
+        b.count_wait();
+        let mut journal = self.journal.lock(rt);
+        journal.teach(a)?;
+        journal.teach(b)
+    }
+
+    /// A view after at least so many entries of the log, which is what the session has then seen. `Ahead` comes exactly
+    /// where the whole log has fewer.
+    pub fn read_at_least<R: Wait>(
+        &self,
+        rt: &R,
+        session: &mut Session<M, J>,
+        seen: u64,
+    ) -> Result<View<M>, ViewFault>
+        ensures version { IfOk result (λ v. (v.version ≡ length session.new.seen) × (seen ≤ v.version)) }
+        ensures state { IfOk result (λ v. Reaches M.step J.opening session.new.seen (arc_value v.state)) }
+        ensures kept { OnOk result (session.new ≡ record (counted session.old) { seen = session.new.seen }) }
+        ensures fault { IfErr result (IsViewFault (counted session.old) session.new seen) }
+        ensures seen { IsPrefix session.old.seen session.new.seen }
+    {
+        session.count_wait();
+        let mut journal = self.journal.lock(rt);
+        if let Err(denied) = journal.teach(session) {
+            return Err(ViewFault::Denied(denied));
+        }
+        if let Err(ahead) = journal.check_seen(seen) {
+            return Err(ViewFault::Ahead(ahead));
+        }
+        match journal.view() {
+            Ok(view) => Ok(view),
+            Err(_) => Err(ViewFault::Memory),
+        }
+    }
+
+    /// Ends the desk. It waits for readers. Views and sessions may be kept.
+    pub fn close<R: Wait>(self, rt: &R) {
+        let Desk { journal } = self;
+        ManuallyDrop::into_inner(journal.into_inner()).close(rt);
+    }
+}

@@ -1,0 +1,4 @@
+//! A desk at which threads share one machine: edits behind one lock, and reads beside it.
+#![tactic(auto)]
+
+pub mod desk;

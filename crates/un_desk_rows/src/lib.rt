@@ -1,0 +1,11 @@
+//! Tests of a desk, a journal and a board, with a counter for a machine.
+#![tactic(auto)]
+
+#[cfg(test)]
+mod board;
+#[cfg(test)]
+mod counter;
+#[cfg(test)]
+mod journal;
+#[cfg(test)]
+mod threads;

@@ -1,0 +1,4 @@
+pub mod LogWord
+pub mod Rule
+pub mod Models
+pub mod Faults

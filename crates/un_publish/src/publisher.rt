@@ -1,0 +1,97 @@
+//! A writer to which each new value is handed over whole.
+//!
+//! `left_right` keeps two copies of a value and a list of operations that the spare copy lacks. Here an operation is a
+//! whole new value, so the last one counts, and what readers find after a publishing is exactly the value handed over.
+//! Readers are told what the writer has seen by a place of their own that is made for it: a place that is just made is
+//! known to be one of this writer's, and one that has been used is not.
+ghost use Rattle.std.specs.Prelude.{◌≡◌, ℕ, IfSome, IfNone, MatchResult};
+ghost use Rattle.left_right.specs.Sides.{view};
+ghost use Rattle.left_right.specs.Register.{Admits, TurnsAt, Forks, Merges};
+
+use crate::published::Snapshot;
+use atomic_table::{Join, Split};
+use core::mem::replace_with;
+use crossbeam_utils::rule::{Outcome, Protocol};
+use left_right::reader::Reader;
+use left_right::writer::Writer;
+use std::sync::Wait;
+use un_machine::Memory;
+
+pub(crate) type Publisher<T, V, P> = Writer<T, T, V, P>;
+
+// Readers find `next` from now on. At `Memory` they find what they found.
+pub(crate) fn publish_whole<T: Snapshot, V, P: Protocol<T, V>, L: Outcome<T, V>, R: Wait>(
+    writer: Publisher<T, V, P>,
+    rt: &R,
+    next: T,
+) -> (Publisher<T, V, P>, Result<(), Memory>)
+    requires { TurnsAt P.holds writer.desk.place.id (view writer.desk.place) writer.desk.shown.value next L.then }
+    ensures { MatchResult result.1
+        (λ _. (result.0.desk.shown.value ≡ next) × L.then (view writer.desk.place) writer.desk.shown.value next (view result.0.desk.place))
+        (λ _. (result.0.desk.shown.value ≡ writer.desk.shown.value) × (view result.0.desk.place ≡ view writer.desk.place)) }
+{
+    let mut writer = writer;
+    if writer.append(next).is_err() {
+        return (writer, Err(Memory));
+    }
+    match writer.publish_as::<L, R>(rt) {
+        (writer, Ok(())) => (writer, Ok(())),
+        (writer, Err(_)) => (writer, Err(Memory)),
+    }
+}
+
+// The same in place.
+pub(crate) fn publish_whole_in<T: Snapshot, V, P: Protocol<T, V>, L: Outcome<T, V>, R: Wait>(
+    writer: &mut Publisher<T, V, P>,
+    rt: &R,
+    next: T,
+) -> Result<(), Memory>
+    requires { TurnsAt P.holds writer.old.desk.place.id (view writer.old.desk.place) writer.old.desk.shown.value next L.then }
+    ensures { MatchResult result
+        (λ _. (writer.new.desk.shown.value ≡ next) × L.then (view writer.old.desk.place) writer.old.desk.shown.value next (view writer.new.desk.place))
+        (λ _. (writer.new.desk.shown.value ≡ writer.old.desk.shown.value) × (view writer.new.desk.place ≡ view writer.old.desk.place)) }
+{
+    replace_with(
+        writer,
+        next,
+        |writer, next| publish_whole::<T, V, P, L, R>(writer, rt, next),
+    )
+}
+
+// A new reader that has learned what the writer tells. `None` where each place is in use.
+pub(crate) fn informed_reader<T: Snapshot, V, P: Protocol<T, V>, N: Split<V> + Join<V>>(
+    writer: &mut Publisher<T, V, P>,
+) -> Option<Reader<T, V, P>>
+    requires admits { Admits P.holds P.first }
+    requires tells { Forks P.holds writer.old.desk.place.id (view writer.old.desk.place) (N.left (view writer.old.desk.place)) (N.right (view writer.old.desk.place)) }
+    requires learns { (seat other : ℕ) → Merges P.holds seat P.first other (N.right (view writer.old.desk.place)) (N.both P.first (N.right (view writer.old.desk.place))) N.spent }
+    ensures informed { IfSome result (λ r. view r.place ≡ N.both P.first (N.right (view writer.old.desk.place))) }
+    ensures kept { IfSome result (λ _. (writer.new.desk.shown.value ≡ writer.old.desk.shown.value) × (view writer.new.desk.place ≡ N.left (view writer.old.desk.place))) }
+    ensures none { IfNone result (writer.new ≡ writer.old) }
+{
+    let mut reader = writer.factory().reader().ok()?;
+    reader.learn::<N>(writer.tell::<N>());
+    Some(reader)
+}
+
+// The same, and waits where each place is in use.
+pub(crate) fn informed_reader_at_last<
+    T: Snapshot,
+    V,
+    P: Protocol<T, V>,
+    N: Split<V> + Join<V>,
+    R: Wait,
+>(writer: &mut Publisher<T, V, P>, rt: &R) -> Reader<T, V, P>
+    requires admits { Admits P.holds P.first }
+    requires tells { Forks P.holds writer.old.desk.place.id (view writer.old.desk.place) (N.left (view writer.old.desk.place)) (N.right (view writer.old.desk.place)) }
+    requires learns { (seat other : ℕ) → Merges P.holds seat P.first other (N.right (view writer.old.desk.place)) (N.both P.first (N.right (view writer.old.desk.place))) N.spent }
+    ensures informed { view result.place ≡ N.both P.first (N.right (view writer.old.desk.place)) }
+    ensures kept { (writer.new.desk.shown.value ≡ writer.old.desk.shown.value) × (view writer.new.desk.place ≡ N.left (view writer.old.desk.place)) }
+{
+    for _ in rt.forever() {
+        if let Some(reader) = informed_reader::<T, V, P, N>(writer) {
+            return reader;
+        }
+    }
+    unreachable!()
+}

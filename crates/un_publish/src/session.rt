@@ -1,0 +1,286 @@
+//! A session: one caller's place at a board, from which it reads without waiting.
+//!
+//! A read has to give a state that is whole, and no older than what the caller has seen or was told of, and it may not
+//! wait for a writer that is about to publish. So a session enters the copy that is published at that moment, by one
+//! exchange of a word, takes a reference to the state and the beginning of the log beside it, and leaves. What it has
+//! seen is kept as that beginning. By the rule of the board the next entering finds a log that begins with it.
+//!
+//! A read takes a few atomic steps and copies no state.
+ghost use Rattle.std.specs.Prelude.{◌≡◌, ◌+◌, ◌≤◌, ◌<◌, ◌^◌, [], length, IfOk, IfErr, OnOk, MatchResult, MatchOption, IfSome};
+ghost use mathlib.Core.List.{IsPrefix};
+ghost use Rattle.std.specs.Arc.{arc_value};
+ghost use Rattle.left_right.specs.Sides.{view};
+ghost use Rattle.un_machine.specs.Logs.{Reaches, entries_of};
+ghost use Rattle.un_publish.specs.Rule.{Sees};
+ghost use Rattle.un_publish.specs.Models.{AreFresh, fresh, risen, SessionModel};
+ghost use Rattle.un_publish.specs.Faults.{IsReadFault, IsTeachFault};
+
+use crate::prefix::Prefix;
+use crate::published::{BoardName, BoardRule, Known, Looks, Published};
+use core::mem::replace_with;
+use left_right::reader::{Factory, Reader};
+use std::alloc::Global;
+use std::marker::Model;
+use std::sync::Arc;
+use un_machine::{Entry, Machine, Memory};
+
+/// A state of the machine, after so many entries of the log. It never changes, whatever is committed while it is held.
+#[derive(Drop)]
+pub struct View<M> {
+    /// How many entries of the log lead to the state.
+    pub version: u64,
+    pub state: Arc<M>,
+}
+
+/// Why a session can't go on, where memory is there. None of these is expected to come; each is counted by the session.
+#[derive(Clone, Copy, Debug, PartialEq, Eq)]
+pub enum Denied {
+    /// There was no copy to enter.
+    NoCopy,
+    /// The log has so many entries with the session's number, and the session counts another number as its own.
+    Book { book: u64, own: u64 },
+    /// The session has seen more entries than the log has.
+    Long { seen: u64, log: u64 },
+}
+
+/// Why a call of a session has no result.
+#[derive(Clone, Copy, Debug, PartialEq, Eq)]
+pub enum SessionFault {
+    Denied(Denied),
+    Memory,
+}
+
+pub(crate) type BoardReader<M, J> = Reader<Published<M, J>, Known<M>, BoardRule>;
+
+// What an entering found. There is no state where no reference to it could be had.
+#[derive(Drop)]
+pub(crate) struct Found<M: Machine, J: BoardName<M>> {
+    pub(crate) prefix: Prefix<Entry<M>, J>,
+    pub(crate) state: Option<Arc<M>>,
+}
+
+// Enters, looks and leaves.
+pub(crate) fn enter<M: Machine, J: BoardName<M>>(
+    reader: BoardReader<M, J>,
+) -> (BoardReader<M, J>, Option<Found<M, J>>)
+    ensures { MatchOption result.1 (view result.0.place ≡ view reader.place)
+        (λ f. (s : M) × Sees (view reader.place) (s, f.prefix) (view result.0.place) × Reaches M.step J.opening f.prefix s × IfSome f.state (λ a. arc_value a ≡ s)) }
+{
+    match reader.enter_as::<Looks>() {
+        Ok(reading) => {
+            let shown = reading.get();
+            let prefix = shown.prefix();
+            let state = shown.state().ok();
+            (reading.leave(), Some(Found { prefix, state }))
+        }
+        Err(reader) => (reader, None),
+    }
+}
+
+// The same in place.
+fn enter_in<M: Machine, J: BoardName<M>>(reader: &mut BoardReader<M, J>) -> Option<Found<M, J>>
+    ensures { MatchOption result (view reader.new.place ≡ view reader.old.place)
+        (λ f. (s : M) × Sees (view reader.old.place) (s, f.prefix) (view reader.new.place) × Reaches M.step J.opening f.prefix s × IfSome f.state (λ a. arc_value a ≡ s)) }
+{
+    replace_with(reader, (), |reader, _| enter(reader))
+}
+
+/// One caller's place at a board. Contracts see its number, the beginning of the log that it has seen, how many of these
+/// entries are its own, and its two counts. Its own entries are the first so many of those with its number.
+#[derive(Drop)]
+pub struct Session<M: Machine, J: BoardName<M>> {
+    reader: BoardReader<M, J>,
+    prefix: Prefix<Entry<M>, J>,
+    number: u32,
+    own: u64,
+    denied: u64,
+    waits: u64,
+}
+
+impl<M: Machine, J: BoardName<M>> Model for Session<M, J> {
+    ghost use Rattle.std.specs.Prelude.{◌≤◌, ◌<◌, length};
+    ghost use Rattle.left_right.specs.Sides.{view as known_by};
+    ghost use Rattle.un_machine.specs.Logs.{entries_of};
+    ghost use Rattle.un_publish.specs.Models.{SessionModel};
+    ghost use Rattle.un_publish.specs.Rule.{IsReady};
+
+    ghost Value = { SessionModel M M.Cmd M.Reply M.Hint M.Mark };
+
+    ghost view = { λ s. record { number = s.number; seen = s.prefix; own = s.own; denied = s.denied; waits = s.waits } };
+
+    ghost invariant = { λ s. IsReady (known_by s.reader.place) s.prefix × (s.own ≤ length (entries_of s.number s.prefix)) × (s.number < 64) };
+}
+
+// What makes readers at a board.
+pub(crate) type ReaderFactory<M, J> = Factory<Published<M, J>, Known<M>, BoardRule>;
+
+// So many sessions, which are numbered from 0 on and have seen nothing.
+pub(crate) fn sessions_at<M: Machine, J: BoardName<M>>(
+    alloc: Global,
+    readers: &ReaderFactory<M, J>,
+    prefix: &Prefix<Entry<M>, J>,
+    count: u32,
+) -> Result<Vec<Session<M, J>>, Memory>
+    requires prefix { prefix.now ≡ [] }
+    requires count { count ≤ 64 }
+    ensures { IfOk result (λ v. AreFresh count v.items) }
+{
+    let mut all = Vec::new(alloc);
+    for number in 0..count {
+        let Ok(reader) = readers.reader() else {
+            return Err(Memory);
+        };
+        if all.reserve(1).is_err() {
+            return Err(Memory);
+        }
+        all.push_reserved(Session::fresh(reader, prefix.again(), number));
+    }
+    Ok(all)
+}
+
+impl<M: Machine, J: BoardName<M>> Session<M, J> {
+    fn fresh(reader: BoardReader<M, J>, prefix: Prefix<Entry<M>, J>, number: u32) -> Session<M, J>
+        requires { ((view reader.place).seen ≡ []) × (prefix ≡ []) × (number < 64) }
+        ensures { result ≡ fresh number }
+    {
+        Session {
+            reader,
+            prefix,
+            number,
+            own: 0,
+            denied: 0,
+            waits: 0,
+        }
+    }
+
+    /// How many entries of the log the session has seen.
+    pub fn seen(&self) -> u64
+        ensures { result ≡ length self.now.seen }
+    {
+        self.prefix.len()
+    }
+
+    /// The session's number, from 0 to 63.
+    pub fn number(&self) -> u32
+        ensures number { result ≡ self.now.number }
+        ensures below { result < 64 }
+    {
+        self.number
+    }
+
+    /// How many of the entries that it has seen are the session's own.
+    pub fn own(&self) -> u64
+        ensures { result ≡ self.now.own }
+    {
+        self.own
+    }
+
+    /// How many calls were denied: each answer `Denied` of a read, and of a board that teaches the session or checks its
+    /// book, adds one. It stays at the greatest `u64`.
+    pub fn denied(&self) -> u64
+        ensures { result ≡ self.now.denied }
+    {
+        self.denied
+    }
+
+    /// How many calls of the session may have waited for another thread.
+    pub fn waits(&self) -> u64
+        ensures { result ≡ self.now.waits }
+    {
+        self.waits
+    }
+
+    /// Counts one call that may wait. The count stays at the greatest `u64`.
+    pub fn count_wait(&mut self)
+        ensures { self.new ≡ record self.old { waits = risen self.old.waits } }
+    {
+        self.waits = self.waits.saturating_add(1);
+    }
+
+    // Counts one call that was denied.
+    pub(crate) fn count_denied(&mut self)
+        ensures { self.new ≡ record self.old { denied = risen self.old.denied } }
+    {
+        self.denied = self.denied.saturating_add(1);
+    }
+
+    /// The state after a beginning of the log that begins with all that the session had seen, and which it has then
+    /// seen. It waits for nobody. `NoCopy` is the only `Denied`. At `Memory` there was no further reference to the
+    /// state to be had, and the session may have seen more.
+    pub fn read(&mut self) -> Result<View<M>, SessionFault>
+        ensures ok { IfOk result (λ v. (v.version ≡ length self.new.seen) × Reaches M.step J.opening self.new.seen (arc_value v.state)) }
+        ensures seen { IsPrefix self.old.seen self.new.seen }
+        ensures kept { MatchResult result (λ _. self.new ≡ record self.old { seen = self.new.seen }) (λ f. IsReadFault self.old self.new f) }
+    {
+        match enter_in(&mut self.reader) {
+            Some(Found { prefix, state }) => {
+                let version = prefix.len();
+                self.prefix = prefix;
+                match state {
+                    Some(state) => Ok(View { version, state }),
+                    None => Err(SessionFault::Memory),
+                }
+            }
+            None => {
+                self.denied = self.denied.saturating_add(1);
+                Err(SessionFault::Denied(Denied::NoCopy))
+            }
+        }
+    }
+
+    // Enters by a new reader that was told the whole log.
+    pub(crate) fn learn_log(
+        &mut self,
+        reader: BoardReader<M, J>,
+        log: &Prefix<Entry<M>, J>,
+    ) -> Result<(), Denied>
+        requires { (view reader.place).told ≡ log.now }
+        ensures seen { IsPrefix self.old.seen self.new.seen }
+        ensures ok { OnOk result (self.new ≡ record self.old { seen = log.now }) }
+        ensures denied { IfErr result (IsTeachFault log.now self.old self.new) }
+    {
+        let (reader, found) = enter(reader);
+        let Some(found) = found else {
+            self.count_denied();
+            return Err(Denied::NoCopy);
+        };
+        let Found {
+            prefix: published,
+            state: _,
+        } = found;
+        if !self.prefix.begins(&published) {
+            // The session keeps the longer beginning, and the reader that finds no less.
+            return Err(self.denied_as_long(log));
+        }
+        self.reader = reader;
+        self.prefix = published;
+        if self.seen() > log.len() {
+            return Err(self.denied_as_long(log));
+        }
+        Ok(())
+    }
+
+    // Counts one call that was denied, since the session has seen more than the log has.
+    fn denied_as_long(&mut self, log: &Prefix<Entry<M>, J>) -> Denied
+        ensures counted { self.new ≡ record self.old { denied = risen self.old.denied } }
+        ensures long { result ≡ Denied.Long (length self.old.seen) (length log.now) }
+    {
+        self.count_denied();
+        Denied::Long {
+            seen: self.seen(),
+            log: log.len(),
+        }
+    }
+
+    // The session's own entry was added to the log, which the session has then seen. Its next read finds no less.
+    pub(crate) fn add_own_entry(&mut self, informed: BoardReader<M, J>, log: &Prefix<Entry<M>, J>)
+        requires told { (view informed.place).told ≡ log.now }
+        requires own { self.old.own < length (entries_of self.old.number log.now) }
+        ensures { self.new ≡ record self.old { seen = log.now; own = self.old.own + 1 } }
+    {
+        let _most = log.len();
+        self.reader = informed;
+        self.prefix = log.again();
+        self.own += 1;
+    }
+}
