@@ -1,0 +1,52 @@
+use Rattle.std.proofs.Common.{◌≡◌, ◌⊎◌, inl, inr, lit<, refl}
+use Rattle.un_lines.specs.declared.run.Ending.TheVariants.{Ended, Refused, Memory, Limit}
+use Rattle.un_lines.proofs.Public.{Ran-weaker}
+use Rattle.un_script.proofs.Refusals.{refused_alone}
+use Rattle.un_script.proofs.run.run_script.Goals as goal
+
+pub returns-in-SinkFault-clause-statuses : goal.returns-in-SinkFault-clause-statuses
+returns-in-SinkFault-clause-statuses g c = (3, lit< tt, refl)
+
+pub returns-in-SourceFault-clause-statuses : goal.returns-in-SourceFault-clause-statuses
+returns-in-SourceFault-clause-statuses g c = (2, lit< tt, refl)
+
+pub returns-in-Refused-clause-statuses : goal.returns-in-Refused-clause-statuses
+returns-in-Refused-clause-statuses g c = (4, lit< tt, refl)
+
+pub returns-in-Memory-clause-statuses : goal.returns-in-Memory-clause-statuses
+returns-in-Memory-clause-statuses g c = (5, lit< tt, refl)
+
+pub returns-clause-statuses : goal.returns-clause-statuses
+returns-clause-statuses g c = (6, lit< tt, refl)
+
+pub returns-in-Refused-clause-refused : goal.returns-in-Refused-clause-refused
+returns-in-Refused-clause-refused g c = λ _.
+    Ran-weaker _ _ _ _ _ _ (c.in-Refused.ensures.refused refl) (λ read out refused. (refused, refused_alone read _ out refused))
+
+refused_is_neither : (Refused ≡ Ended) ⊎ (Refused ≡ Memory) → ⊥
+refused_is_neither (inl is) = cc
+refused_is_neither (inr is) = cc
+
+limit_is_neither : (Limit ≡ Ended) ⊎ (Limit ≡ Memory) → ⊥
+limit_is_neither (inl is) = cc
+limit_is_neither (inr is) = cc
+
+pub returns-in-Ended-clause-complete : goal.returns-in-Ended-clause-complete
+returns-in-Ended-clause-complete g c = λ bytes words told opens short source sink. inl refl
+
+pub returns-in-Memory-clause-complete : goal.returns-in-Memory-clause-complete
+returns-in-Memory-clause-complete g c = λ bytes words told opens short source sink. inr refl
+
+pub returns-in-SourceFault-clause-complete : goal.returns-in-SourceFault-clause-complete
+returns-in-SourceFault-clause-complete g c = λ bytes words told opens short source sink. absurd (source (c.in-SourceFault.ensures.source_cause refl))
+
+pub returns-in-SinkFault-clause-complete : goal.returns-in-SinkFault-clause-complete
+returns-in-SinkFault-clause-complete g c = λ bytes words told opens short source sink. absurd (sink (c.in-SinkFault.ensures.sink_cause refl))
+
+pub returns-in-Refused-clause-complete : goal.returns-in-Refused-clause-complete
+returns-in-Refused-clause-complete g c = λ bytes words told opens short source sink.
+    absurd (refused_is_neither (c.in-Refused.ensures.complete bytes told opens short (λ e. cc) (λ e. cc)))
+
+pub returns-clause-complete : goal.returns-clause-complete
+returns-clause-complete g c = λ bytes words told opens short source sink.
+    absurd (limit_is_neither (c.in-Limit.ensures.complete bytes told opens short (λ e. cc) (λ e. cc)))

@@ -1,0 +1,13 @@
+//! A network that is edited and asked by lines of JSON.
+#![tactic(auto)]
+
+mod handler;
+mod network;
+mod reply;
+mod request;
+mod run;
+
+pub use run::run_script;
+
+#[cfg(test)]
+mod tests;

@@ -1,0 +1,84 @@
+//! The run of a script, from bytes to bytes.
+ghost use Rattle.std.specs.Prelude.{◌≡◌, ◌⊎◌, ◌↔◌, ℕ, ◌^◌, ◌<◌, List, Some, [], ◌∷◌, true, false, length, Contains, IsTrue};
+ghost use Rattle.std.specs.Io.KnownBytes.{IsAtEnd};
+ghost use Rattle.un_io.specs.Outside.{Rose};
+ghost use Rattle.un_lines.specs.Due.{Opens, IsFront, IsRefused, first_of};
+ghost use Rattle.un_lines.specs.Cut.{lines_of};
+ghost use Rattle.un_lines.specs.Ending.{Ran};
+ghost use Rattle.un_script.specs.Script.{script, IsScript, IsServedBy, IsUnrefused, refusal_line};
+
+use crate::handler::Script;
+use std::alloc::Global;
+use un_io::{Sink, Source, Word};
+use un_lines::{Ending, run_lines};
+
+// The words are the command `script`.
+fn is_script(words: &[Word]) -> bool
+    ensures { IsTrue result ↔ IsScript words.now }
+{
+    match words {
+        [word] => word.as_str() == "script",
+        _ => false,
+    }
+}
+
+/// Runs a script: reads its lines from the source, and writes the replies to the sink. Answers the status of the program.
+///
+/// What is due is a function of the bytes read alone, but for the lines that met want of memory, which are read off the
+/// output. Where a source or a sink doesn't tell its bytes, the clauses on the status and its cause hold alone.
+pub fn run_script<S: Source, K: Sink>(
+    alloc: Global,
+    words: &[Word],
+    source: &mut S,
+    sink: &mut K,
+) -> u8
+    ensures statuses { Contains (0 ∷ 2 ∷ 3 ∷ 4 ∷ 6 ∷ 7 ∷ 8 ∷ []) result }
+
+    // 2: the words are no command. Nothing is read or written.
+    ensures no_command { (result ≡ 2) ↔ ¬ IsScript words.now }
+    ensures nothing_done { result ≡ 2 → (source.new ≡ source.old) × (sink.new ≡ sink.old) }
+
+    // 0: the input was read to its end, and all that is due is written.
+    ensures ended { result ≡ 0 → Ran (S.left source.old) (S.left source.new) (K.taken sink.old) (K.taken sink.new)
+        (λ read out. (length read < 2 ^ 32) × IsServedBy script read true Opens out) }
+    ensures at_end { result ≡ 0 → IsAtEnd (S.left source.new) }
+
+    // 3: the source failed. What is due for the whole lines is written, and no first line was refused.
+    ensures source_fault { result ≡ 3 → Ran (S.left source.old) (S.left source.new) (K.taken sink.old) (K.taken sink.new)
+        (λ read out. (length read < 2 ^ 32) × IsUnrefused read out) }
+    ensures source_cause { result ≡ 3 → Rose (S.faults source.old) (S.faults source.new) }
+
+    // 4: the sink failed. The front of what is due is written.
+    ensures sink_fault { result ≡ 4 → Ran (S.left source.old) (S.left source.new) (K.taken sink.old) (K.taken sink.new)
+        (λ read out. IsFront script read true out × (IsFront script read false out ⊎ IsAtEnd (S.left source.new))) }
+    ensures sink_cause { result ≡ 4 → Rose (K.faults sink.old) (K.faults sink.new) }
+
+    // 6: the first line that isn't blank is no schema, or the input ended without one. The refusal alone is written.
+    ensures refused { result ≡ 6 → Ran (S.left source.old) (S.left source.new) (K.taken sink.old) (K.taken sink.new)
+        (λ read out. IsRefused script read (S.left source.new) out × (out ≡ refusal_line)) }
+
+    // 7: there was no memory to begin. Nothing is written.
+    ensures no_memory { result ≡ 7 → Ran (S.left source.old) (S.left source.new) (K.taken sink.old) (K.taken sink.new)
+        (λ read out. out ≡ []) }
+
+    // 8: so many bytes were read. What is due for the whole lines is written, and no first line was refused.
+    ensures limit { result ≡ 8 → Ran (S.left source.old) (S.left source.new) (K.taken sink.old) (K.taken sink.new)
+        (λ read out. (length read ≡ 2 ^ 32) × IsUnrefused read out) }
+
+    // With a schema, no fault and fewer bytes than the limit, it is 0, or it is 7 for want of memory.
+    ensures complete { (bytes : List ℕ) → IsScript words.now → S.left source.old ≡ Some bytes → first_of script (lines_of true bytes) ≡ Opens → length bytes < 2 ^ 32
+        → ¬ Rose (S.faults source.old) (S.faults source.new) → ¬ Rose (K.faults sink.old) (K.faults sink.new) → (result ≡ 0) ⊎ (result ≡ 7) }
+{
+    if !is_script(words) {
+        return 2;
+    }
+    let mut script = Script::new();
+    match run_lines(alloc, &mut script, source, sink) {
+        Ending::Ended => 0,
+        Ending::SourceFault => 3,
+        Ending::SinkFault => 4,
+        Ending::Refused => 6,
+        Ending::Memory => 7,
+        Ending::Limit => 8,
+    }
+}
