@@ -1,6 +1,9 @@
+pub mod Changes
 pub mod Ordered
+pub mod Reached
 pub mod Rows
 pub mod Searched
 pub mod Shown
 pub mod Splices
 pub mod Nodes
+pub mod Steps

@@ -74,7 +74,7 @@ module _ {K V : Type 0} {cmp : K → K → Ordering} (o : IsTotalOrder cmp) wher
     past_from row i before after =
         ap (λ l. slice_get (past cmp (Some key) l) 0) (sym (take-append-drop i row)) ∙ ap (λ l. slice_get l 0) (past-below o key (take i row) (drop i row) before ∙ past_all_above o key (drop i row) after) ∙ slice_get-drop row i
 
-    got : (row : List (K × V)) (i : ℕ) → i < length row → (x : K × V) × (slice_get row i ≡ Some x)
+    pub got : (row : List (K × V)) (i : ℕ) → i < length row → (x : K × V) × (slice_get row i ≡ Some x)
     got [] i h = absurd (omega arith)
     got (x ∷ row) zero h = (x, refl)
     got (x ∷ row) (suc i) h = got row i (omega arith)

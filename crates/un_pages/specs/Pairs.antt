@@ -1,19 +1,26 @@
 -- Lists of pairs in the order of their keys, and what rows of shared values and of shared parts stand for.
-use Rattle.std.specs.Prelude.{◌≡◌, ℕ, ◌<◌, ◌≤◌, Bool, true, false, List, [], ◌∷◌, map, take, drop, length, slice_get, IfSome, suc, ◌++◌}
+use Rattle.std.specs.Prelude.{◌≡◌, ℕ, ◌<◌, ◌≤◌, Bool, true, false, not, List, [], ◌∷◌, map, take, drop, length, slice_get, IfSome, suc, ◌++◌}
 use Rattle.std.specs.declared.cmp.Ordering.{Ordering}
 use Rattle.std.specs.declared.cmp.Ordering.TheVariants.{Less, Equal}
+use Rattle.std.specs.declared.ops.Bound.{Bound}
+use Rattle.std.specs.declared.ops.Bound.TheVariants.{Included, Excluded, Unbounded}
 use Rattle.std.specs.Prelude.{Option, None, Some}
 use Rattle.std.specs.Ordering.{is_lt}
 use Rattle.std.specs.List.{flat_map, filter, AllByRecursion}
 use Rattle.std.specs.List.Sorted.{IsStrictlySortedBy}
 use Rattle.std.specs.Map.{keys_of}
 use Rattle.std.specs.Option.{option_map}
+use Rattle.std.specs.Range.Bound.{MatchBound}
 use denote.Ref.{Bor}
 use Rattle.std.specs.declared.sync.Arc.{Arc}
 
 -- the pairs of a row, each value as what its `Arc` holds
 abbrev pub shown : {K X Z : Type 0} → List (K × Arc X Z) → List (K × X)
 shown = map (λ p. (p.0, p.1.value))
+
+-- an entry, its value as what its `Arc` holds
+abbrev pub entry_shown : {K X Z : Type 0} → K × Arc X Z → K × X
+entry_shown p = (p.0, p.1.value)
 
 -- the pairs of all parts, one part after another
 abbrev pub flat : {K T V : Type 0} → (T → List (K × V)) → List (K × T) → List (K × V)
@@ -74,6 +81,21 @@ is_past cmp (Some after) k = is_lt (cmp after k)
 -- the pairs whose key is over the bound, or all
 abbrev pub past : {K V : Type 0} → (K → K → Ordering) → Option K → List (K × V) → List (K × V)
 past cmp after = filter (λ p. is_past cmp after p.0)
+
+-- whether a key is one of those that a bound lets begin: from the bound on, or after it
+abbrev pub is_reached : {K : Type 0} → (K → K → Ordering) → Bound K → K → Bool
+is_reached cmp (Included first) k = not (is_lt (cmp k first))
+is_reached cmp (Excluded before) k = is_lt (cmp before k)
+is_reached cmp Unbounded k = true
+
+-- the pairs from the bound on
+abbrev pub from_on : {K V : Type 0} → (K → K → Ordering) → Bound K → List (K × V) → List (K × V)
+from_on cmp bound = filter (λ p. is_reached cmp bound p.0)
+
+-- the part at place i is the first that may have a key from the bound on
+pub record IsStart {K X : Type 0} (cmp : K → K → Ordering) (row : List (K × X)) (bound : Bound K) (i : ℕ) : Type 0 where
+  pub within : i < length row
+  pub place : MatchBound bound (λ key. IsPlace cmp row key i) (λ key. IsPlace cmp row key i) (i ≡ 0)
 
 -- the pairs of a node that may be there
 abbrev pub left : {T V : Type 0} → (T → List V) → Option T → List V

@@ -1,15 +1,16 @@
 // A branch: a row of parts, which are pages in a block and blocks in a shelf.
-ghost use Rattle.std.specs.Prelude.{◌≡◌, ◌<◌, ◌≤◌, ◌∷◌, [], length, IfOk};
+ghost use Rattle.std.specs.Prelude.{◌≡◌, ◌<◌, ◌≤◌, ◌∷◌, ◌++◌, [], length, IfOk};
 ghost use Rattle.std.specs.Arc.{arc_value};
 ghost use Rattle.std.specs.BTreeMap.{insert_entry};
-ghost use Rattle.un_pages.specs.Pairs.{spread, flat, IsGrown, IsOrdered};
+ghost use Rattle.un_pages.specs.Pairs.{spread, flat, from_on, IsGrown, IsOrdered};
 
-use crate::level::{Level, ROOM};
+use crate::level::{Level, Put, ROOM, Taken};
 use crate::page::Page;
 use crate::parts;
-use crate::row::Row;
+use crate::row::{Row, Tail};
 use std::alloc::{AllocError, Global};
 use std::marker::{Model, PhantomData};
+use std::ops::Bound;
 use std::sync::Arc;
 
 #[derive(Drop)]
@@ -74,6 +75,20 @@ impl<K: Ord + Copy, V, T: Level<K, V>> Branch<K, V, T> {
             of: PhantomData,
         })
     }
+
+    pub(crate) fn parts(&self) -> Tail<'_, K, T>
+        ensures parts { flat T.pairs result ≡ self.now }
+        ensures some { 0 < length result }
+    {
+        self.row.tail(0)
+    }
+
+    // The first part that may have a key from the bound on, and the parts after it.
+    pub(crate) fn open(&self, bound: &Bound<K>) -> (&T, Tail<'_, K, T>)
+        ensures { from_on K.cmp bound.now self.now ≡ from_on K.cmp bound.now (T.pairs result.0.now) ++ flat T.pairs result.1 }
+    {
+        parts::open(&self.row, bound)
+    }
 }
 
 impl<K: Ord + Copy, V: Drop, T: Level<K, V>> Level<K, V> for Branch<K, V, T> {
@@ -104,6 +119,14 @@ impl<K: Ord + Copy, V: Drop, T: Level<K, V>> Level<K, V> for Branch<K, V, T> {
         ensures { IfOk result (λ r. spread (λ b. b) r ≡ insert_entry K.cmp self.now key (arc_value value)) }
     {
         packed(parts::with(&self.row, alloc, key, value)?)
+    }
+
+    fn put(&mut self, alloc: Global, key: K, value: &Arc<V>) -> Result<Put, AllocError> {
+        parts::put(&mut self.row, alloc, key, value)
+    }
+
+    fn take(&mut self, alloc: Global, key: &K) -> Result<Taken, AllocError> {
+        parts::take(&mut self.row, alloc, key)
     }
 
     fn without(&self, alloc: Global, key: &K) -> Result<Option<Branch<K, V, T>>, AllocError> {

@@ -13,6 +13,16 @@
 //! 21 is joined with a neighbour, or the two share their entries evenly. A change copies about 200
 //! entries of 16 bytes, whatever the size of the map, and a look-up compares about 20 keys in a million.
 //!
+//! `put` and `take` do the same in the map itself. On the way down each node asks its `Arc` whether it
+//! is the only owner. Where it is, and the page has room, or is left with more than a third of it, the
+//! page is changed in place, and nothing is copied. Where a node is shared, or a page has to be split or
+//! joined, the nearest node above it that is not shared, and may gain or lose a part, gets a copy of the
+//! way from itself down, as `with` or `without` makes it. So of many changes in a row each copies only
+//! what it is the first to touch, and what another map shares never changes: an `Arc` lends what it
+//! holds to its sole owner alone.
+//!
+//! `range` notes on the way down which parts come after the one that it enters (`range`).
+//!
 //! A block, a shelf and the root list do the same with their parts, so that is written once, in
 //! `parts`, over any `Level`.
 #![tactic(auto)]
@@ -22,10 +32,12 @@ mod level;
 mod page;
 mod paged;
 mod parts;
+mod range;
 mod root;
 mod row;
 #[cfg(test)]
 mod tests;
 
 pub use paged::Paged;
+pub use range::Range;
 pub use std::alloc::AllocError as Memory;

@@ -1,14 +1,16 @@
 // A page: pairs in the order of their keys.
-ghost use Rattle.std.specs.Prelude.{◌≡◌, ◌<◌, ◌≤◌, ◌+◌, ◌∷◌, [], length, IfOk};
+ghost use Rattle.std.specs.Prelude.{◌≡◌, ◌<◌, ◌≤◌, ◌+◌, ◌∷◌, [], length, IfOk, OnErr};
 ghost use Rattle.std.specs.Arc.{arc_value};
 ghost use Rattle.std.specs.Map.{remove_entry};
 ghost use Rattle.std.specs.BTreeMap.{is_at, insert_entry};
-ghost use Rattle.un_pages.specs.Pairs.{spread, IsOrdered};
+ghost use Rattle.un_pages.specs.Pairs.{spread, from_on, IsOrdered, IsPage};
+ghost use Rattle.un_pages.specs.Changes.{IsPut, IsTaken};
 
-use crate::level::{Level, ROOM};
-use crate::row::Row;
+use crate::level::{LEAST_FILL, Level, Put, ROOM, Taken};
+use crate::row::{Row, Tail};
 use std::alloc::{AllocError, Global};
 use std::marker::Model;
+use std::ops::Bound;
 use std::sync::Arc;
 
 #[derive(Drop)]
@@ -81,6 +83,47 @@ fn cut<K: Ord + Copy, V: Drop>(
     }
 }
 
+// `put`, in the row itself.
+fn put_here<K: Ord + Copy, V: Drop>(
+    row: &mut Row<K, V>,
+    alloc: Global,
+    key: K,
+    value: &Arc<V>,
+) -> Result<Put, AllocError>
+    requires { IsPage K.cmp row.old }
+    ensures put { IfOk result (IsPut K.cmp (λ r. r) row.old row.new key (arc_value value.now)) }
+    ensures page { IsPage K.cmp row.new }
+    ensures err { OnErr result (row.new ≡ row.old) }
+{
+    match row.seek(&key) {
+        Ok(at) => {
+            row.set_value(at, Arc::try_clone(value)?);
+            Ok(Put::Replaced)
+        }
+        Err(at) if row.len() < ROOM => {
+            row.insert(at, key, Arc::try_clone(value)?)?;
+            Ok(Put::Added)
+        }
+        Err(_) => Ok(Put::Refused),
+    }
+}
+
+// `cut`, in the row itself.
+fn cut_here<K: Ord + Copy, V: Drop>(row: &mut Row<K, V>, key: &K) -> Taken
+    requires { IsPage K.cmp row.old }
+    ensures taken { IsTaken K.cmp (λ r. r) row.old row.new key.now result }
+    ensures page { IsPage K.cmp row.new }
+{
+    match row.seek(key) {
+        Ok(at) if row.len() > LEAST_FILL => {
+            row.remove(at);
+            Taken::Removed
+        }
+        Ok(_) => Taken::Kept,
+        Err(_) => Taken::Absent,
+    }
+}
+
 impl<K: Ord + Copy, V: Drop> Page<K, V> {
     // A page with one pair.
     pub(crate) fn of(alloc: Global, key: K, value: Arc<V>) -> Result<Page<K, V>, AllocError>
@@ -89,6 +132,19 @@ impl<K: Ord + Copy, V: Drop> Page<K, V> {
         Ok(Page {
             row: Row::one(alloc, key, value)?,
         })
+    }
+
+    pub(crate) fn entries(&self) -> Tail<'_, K, V>
+        ensures entries { result ≡ self.now }
+        ensures some { 0 < length self.now }
+    {
+        self.row.tail(0)
+    }
+
+    pub(crate) fn entries_from(&self, bound: &Bound<K>) -> Tail<'_, K, V>
+        ensures { result ≡ from_on K.cmp bound.now self.now }
+    {
+        self.row.tail(self.row.place_from(bound))
     }
 }
 
@@ -128,6 +184,14 @@ impl<K: Ord + Copy, V: Drop> Level<K, V> for Page<K, V> {
         ensures { IfOk result (λ r. spread (λ p. p) r ≡ insert_entry K.cmp self.now key (arc_value value)) }
     {
         packed(put(&self.row, alloc, key, value)?)
+    }
+
+    fn put(&mut self, alloc: Global, key: K, value: &Arc<V>) -> Result<Put, AllocError> {
+        put_here(&mut self.row, alloc, key, value)
+    }
+
+    fn take(&mut self, _alloc: Global, key: &K) -> Result<Taken, AllocError> {
+        Ok(cut_here(&mut self.row, key))
     }
 
     fn without(&self, alloc: Global, key: &K) -> Result<Option<Page<K, V>>, AllocError> {

@@ -1,13 +1,15 @@
 // What is done in a row of parts by the one part that may have the key.
-ghost use Rattle.std.specs.Prelude.{◌≡◌, ◌<◌, ◌≤◌, ◌+◌, ◌++◌, length, slice_get, Some, IfOk, take, drop, suc};
+ghost use Rattle.std.specs.Prelude.{◌≡◌, ◌<◌, ◌≤◌, ◌+◌, ◌++◌, length, slice_get, Some, IfOk, OnErr, take, drop, suc};
 ghost use Rattle.std.specs.Arc.{arc_value};
 ghost use Rattle.std.specs.Map.{lookup, remove_entry};
 ghost use Rattle.std.specs.BTreeMap.{is_at, insert_entry};
-ghost use Rattle.un_pages.specs.Pairs.{spread, held, pair_held, value_held, past, flat, IsOrdered, IsGrown, IsSeated, IsChanged, HasFirstKeys};
+ghost use Rattle.un_pages.specs.Pairs.{spread, held, pair_held, value_held, past, from_on, flat, IsOrdered, IsGrown, IsSeated, IsChanged, IsBranch, HasFirstKeys};
+ghost use Rattle.un_pages.specs.Changes.{IsPut, IsTaken, IsKept};
 
-use crate::level::{LEAST_FILL, Level};
-use crate::row::Row;
+use crate::level::{LEAST_FILL, Level, Put, ROOM, Taken};
+use crate::row::{Row, Tail};
 use std::alloc::{AllocError, Global};
+use std::ops::Bound;
 use std::sync::Arc;
 
 pub(crate) fn get<'a, K: Ord + Copy, V, T: Level<K, V>>(
@@ -61,6 +63,20 @@ fn first_beyond<K: Ord + Copy, V, T: Level<K, V>>(
     Some(part.first())
 }
 
+// The first part that may have a key from the bound on, and the parts after it.
+pub(crate) fn open<'a, K: Ord + Copy, V, T: Level<K, V>>(
+    row: &'a Row<K, T>,
+    bound: &Bound<K>,
+) -> (&'a T, Tail<'a, K, T>)
+    requires { IsGrown K.cmp T.pairs row.now }
+    ensures { from_on K.cmp bound.now (flat T.pairs row.now) ≡ from_on K.cmp bound.now (T.pairs result.0.now) ++ flat T.pairs result.1 }
+{
+    let at = row.start(bound);
+    let _len = row.len();
+    let (_, part) = row.entry(at);
+    (part, row.tail(at + 1))
+}
+
 // A part, as a row.
 pub(crate) fn alone<K: Ord + Copy, V, T: Level<K, V>>(
     alloc: Global,
@@ -106,6 +122,85 @@ pub(crate) fn with<K: Ord + Copy, V, T: Level<K, V>>(
     let (_, part) = row.entry(at);
     let new = seated::<K, V, T>(alloc, part.with(alloc, key, value)?)?;
     row.spliced(alloc, at, 1, new)
+}
+
+// `with`, in the parts themselves.
+pub(crate) fn put_in<K: Ord + Copy, V, T: Level<K, V>>(
+    row: &mut Row<K, T>,
+    alloc: Global,
+    key: K,
+    value: &Arc<V>,
+) -> Result<Put, AllocError>
+    requires { IsGrown K.cmp T.pairs row.old }
+    ensures put { IfOk result (IsPut K.cmp (flat T.pairs) row.old row.new key (arc_value value.now)) }
+    ensures kept { IsKept K.cmp T.pairs row.old row.new }
+    ensures err { OnErr result (row.new ≡ row.old) }
+{
+    let at = row.place(&key);
+    row.put_at(at, alloc, key, value)
+}
+
+// `with`, in the parts themselves, or by a copy of those on the way.
+pub(crate) fn put<K: Ord + Copy, V, T: Level<K, V>>(
+    row: &mut Row<K, T>,
+    alloc: Global,
+    key: K,
+    value: &Arc<V>,
+) -> Result<Put, AllocError>
+    requires { IsBranch K.cmp T.pairs row.old }
+    ensures put { IfOk result (IsPut K.cmp (flat T.pairs) row.old row.new key (arc_value value.now)) }
+    ensures kept { IsBranch K.cmp T.pairs row.new }
+    ensures err { OnErr result (row.new ≡ row.old) }
+{
+    match put_in(row, alloc, key, value)? {
+        Put::Refused if row.len() < ROOM => {
+            let put = match get(row, &key) {
+                Some(_) => Put::Replaced,
+                None => Put::Added,
+            };
+            *row = with(row, alloc, key, Arc::try_clone(value)?)?;
+            Ok(put)
+        }
+        put => Ok(put),
+    }
+}
+
+// `without`, in the parts themselves.
+pub(crate) fn take_in<K: Ord + Copy, V, T: Level<K, V>>(
+    row: &mut Row<K, T>,
+    alloc: Global,
+    key: &K,
+) -> Result<Taken, AllocError>
+    requires { IsGrown K.cmp T.pairs row.old }
+    ensures taken { IfOk result (IsTaken K.cmp (flat T.pairs) row.old row.new key.now) }
+    ensures kept { IsKept K.cmp T.pairs row.old row.new }
+    ensures err { OnErr result (row.new ≡ row.old) }
+{
+    let at = row.place(key);
+    row.take_at(at, alloc, key)
+}
+
+// `without`, in the parts themselves, or by a copy of those on the way.
+pub(crate) fn take<K: Ord + Copy, V, T: Level<K, V>>(
+    row: &mut Row<K, T>,
+    alloc: Global,
+    key: &K,
+) -> Result<Taken, AllocError>
+    requires { IsBranch K.cmp T.pairs row.old }
+    ensures taken { IfOk result (IsTaken K.cmp (flat T.pairs) row.old row.new key.now) }
+    ensures kept { IsBranch K.cmp T.pairs row.new }
+    ensures err { OnErr result (row.new ≡ row.old) }
+{
+    match take_in(row, alloc, key)? {
+        Taken::Kept if row.len() > LEAST_FILL => match get(row, key) {
+            None => Ok(Taken::Absent),
+            Some(_) => {
+                *row = without::<K, V, T>(row, alloc, key)?;
+                Ok(Taken::Removed)
+            }
+        },
+        taken => Ok(taken),
+    }
 }
 
 pub(crate) fn without<K: Ord + Copy, V, T: Level<K, V>>(

@@ -1,17 +1,20 @@
 // The root list: a row of any number of shelves.
-ghost use Rattle.std.specs.Prelude.{◌≡◌, ◌∷◌, [], slice_get, Some, IfOk};
+ghost use Rattle.std.specs.Prelude.{◌≡◌, ◌∷◌, [], slice_get, Some, IfOk, OnErr};
 ghost use Rattle.std.specs.Arc.{arc_value};
 ghost use Rattle.std.specs.Map.{lookup, remove_entry};
 ghost use Rattle.std.specs.BTreeMap.{is_at, insert_entry};
-ghost use Rattle.un_pages.specs.Pairs.{held, pair_held, value_held, past, left, IsOrdered};
+ghost use Rattle.un_pages.specs.Pairs.{held, pair_held, value_held, past, from_on, left, IsOrdered};
+ghost use Rattle.un_pages.specs.Changes.{IsPut, IsTaken};
 
 use crate::branch::{Branch, Shelf};
-use crate::level::Level;
+use crate::level::{Level, Put, Taken};
 use crate::page::Page;
 use crate::parts;
+use crate::range::{Range, Under};
 use crate::row::Row;
 use std::alloc::{AllocError, Global};
 use std::marker::Model;
+use std::ops::Bound;
 use std::sync::Arc;
 
 #[derive(Drop)]
@@ -60,6 +63,15 @@ impl<K: Ord + Copy, V: Drop> Root<K, V> {
         parts::next(&self.shelves, after)
     }
 
+    pub(crate) fn range(&self, bound: &Bound<K>) -> Range<'_, K, V>
+        ensures { result ≡ from_on K.cmp bound.now self.now }
+    {
+        let (shelf, shelves) = parts::open(&self.shelves, bound);
+        let (block, blocks) = shelf.open(bound);
+        let (page, pages) = block.open(bound);
+        Range::new(page.entries_from(bound), pages, Under::new(blocks, shelves))
+    }
+
     pub(crate) fn with(
         &self,
         alloc: Global,
@@ -70,6 +82,22 @@ impl<K: Ord + Copy, V: Drop> Root<K, V> {
     {
         let shelves = parts::with(&self.shelves, alloc, key, value)?;
         Ok(Root { shelves })
+    }
+
+    // `with`, in the root list itself.
+    pub(crate) fn put(&mut self, alloc: Global, key: K, value: &Arc<V>) -> Result<Put, AllocError>
+        ensures put { IfOk result (IsPut K.cmp (λ m. m) self.old self.new key (arc_value value.now)) }
+        ensures err { OnErr result (self.new ≡ self.old) }
+    {
+        parts::put_in(&mut self.shelves, alloc, key, value)
+    }
+
+    // `without`, in the root list itself.
+    pub(crate) fn take(&mut self, alloc: Global, key: &K) -> Result<Taken, AllocError>
+        ensures taken { IfOk result (IsTaken K.cmp (λ m. m) self.old self.new key.now) }
+        ensures err { OnErr result (self.new ≡ self.old) }
+    {
+        parts::take_in(&mut self.shelves, alloc, key)
     }
 
     // None where no pair is left.

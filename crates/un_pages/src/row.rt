@@ -1,10 +1,14 @@
 // A row of keys, each beside a shared value: what a page, a block, a shelf and the root list are made of.
-ghost use Rattle.std.specs.Prelude.{◌≡◌, ◌<◌, ◌≤◌, ◌+◌, ◌∷◌, ◌++◌, [], length, slice_get, IfOk, IfErr, Some, take, drop};
+ghost use Rattle.std.specs.Prelude.{◌≡◌, ◌<◌, ◌≤◌, ◌+◌, ◌∷◌, ◌++◌, [], length, slice_get, IfOk, IfErr, OnOk, OnErr, IfSome, Some, take, drop};
 ghost use Rattle.std.specs.Arc.{arc_value};
-ghost use Rattle.un_pages.specs.Pairs.{past, shown, IsOrdered, IsFound, IsGap, IsPlace};
+ghost use Rattle.std.specs.Map.Iter.{TakesFirst};
+ghost use Rattle.un_pages.specs.Pairs.{past, from_on, shown, entry_shown, pair_held, first_key, IsOrdered, IsFound, IsGap, IsPlace, IsStart};
+ghost use Rattle.un_pages.specs.Changes.{IsPut, IsTaken, IsChangedAt};
 
+use crate::level::{Level, Put, Taken};
 use std::alloc::{AllocError, Global};
 use std::marker::Model;
+use std::ops::Bound;
 use std::sync::Arc;
 
 #[derive(Drop)]
@@ -21,6 +25,37 @@ impl<K: Ord + Copy, X> Model for Row<K, X> {
     ghost view = { λ r. shown r.items.items };
 }
 
+// The entries of a row from a place on.
+#[derive(Drop)]
+pub(crate) struct Tail<'a, K: Ord + Copy, X> {
+    items: &'a [(K, Arc<X>)],
+}
+
+impl<'a, K: Ord + Copy, X> Model for Tail<'a, K, X> {
+    ghost use Rattle.std.specs.Prelude.{List};
+    ghost use Rattle.un_pages.specs.Pairs.{shown};
+
+    ghost Value = { List (K × X) };
+
+    ghost view = { λ t. shown t.items.now };
+}
+
+impl<'a, K: Ord + Copy, X> Tail<'a, K, X> {
+    pub(crate) fn empty() -> Tail<'a, K, X>
+        ensures { result ≡ [] }
+    {
+        Tail { items: &[] }
+    }
+
+    pub(crate) fn next(&mut self) -> Option<(K, &'a Arc<X>)>
+        ensures { TakesFirst pair_held self.old result self.new }
+    {
+        let (first, others) = self.items.split_first()?;
+        self.items = others;
+        Some((first.0, &first.1))
+    }
+}
+
 impl<K: Ord + Copy, X> Row<K, X> {
     pub(crate) fn empty(alloc: Global) -> Row<K, X>
         ensures { result ≡ [] }
@@ -28,6 +63,14 @@ impl<K: Ord + Copy, X> Row<K, X> {
         Row {
             items: Vec::new(alloc),
         }
+    }
+
+    // No entries, and room for so many.
+    fn with_room(alloc: Global, room: usize) -> Result<Row<K, X>, AllocError>
+        ensures { IfOk result (λ r. r ≡ []) }
+    {
+        let items = Vec::with_capacity(alloc, room)?;
+        Ok(Row { items })
     }
 
     pub(crate) fn len(&self) -> usize
@@ -69,13 +112,122 @@ impl<K: Ord + Copy, X> Row<K, X> {
     // The place of the first entry whose key is over `key`.
     pub(crate) fn beyond(&self, key: &K) -> usize
         requires { IsOrdered K.cmp self.now }
-        ensures { slice_get (past K.cmp (Some key.now) self.now) 0 ≡ slice_get self.now result }
+        ensures first { slice_get (past K.cmp (Some key.now) self.now) 0 ≡ slice_get self.now result }
+        ensures rest { past K.cmp (Some key.now) self.now ≡ drop result self.now }
+        ensures within { result ≤ length self.now }
     {
         let _len = self.len();
         match self.seek(key) {
             Ok(at) => at + 1,
             Err(at) => at,
         }
+    }
+
+    // The place of the first entry from the bound on.
+    pub(crate) fn place_from(&self, bound: &Bound<K>) -> usize
+        requires { IsOrdered K.cmp self.now }
+        ensures reached { from_on K.cmp bound.now self.now ≡ drop result self.now }
+        ensures within { result ≤ length self.now }
+    {
+        match bound {
+            Bound::Included(key) => match self.seek(key) {
+                Ok(at) | Err(at) => at,
+            },
+            Bound::Excluded(key) => self.beyond(key),
+            Bound::Unbounded => 0,
+        }
+    }
+
+    // The place of the first part that may have a key from the bound on.
+    pub(crate) fn start(&self, bound: &Bound<K>) -> usize
+        requires some { 0 < length self.now }
+        requires ordered { IsOrdered K.cmp self.now }
+        ensures { IsStart K.cmp self.now bound.now result }
+    {
+        match bound {
+            Bound::Included(key) | Bound::Excluded(key) => self.place(key),
+            Bound::Unbounded => 0,
+        }
+    }
+
+    #[tactic(auto, using(crate::proofs::Shown::shown_drop))]
+    pub(crate) fn tail(&self, from: usize) -> Tail<'_, K, X>
+        requires { from ≤ length self.now }
+        ensures { result ≡ drop from self.now }
+    {
+        Tail {
+            items: self.items.as_slice().split_at(from).1,
+        }
+    }
+
+    // Puts another value at a place.
+    #[tactic(auto, using(crate::proofs::Shown::shown_set))]
+    pub(crate) fn set_value(&mut self, at: usize, value: Arc<X>)
+    where
+        X: Drop,
+        requires { at < length self.old }
+        ensures { IfSome (slice_get self.old at) (λ p. self.new ≡ take at self.old ++ (((p.0, arc_value value) ∷ []) ++ drop (at + 1) self.old)) }
+    {
+        self.items[at].1 = value;
+    }
+
+    #[tactic(auto, using(crate::proofs::Shown::shown_insert))]
+    pub(crate) fn insert(&mut self, at: usize, key: K, value: Arc<X>) -> Result<(), AllocError>
+    where
+        X: Drop,
+        requires { at ≤ length self.old }
+        ensures ok { OnOk result (self.new ≡ take at self.old ++ (((key, arc_value value) ∷ []) ++ drop at self.old)) }
+        ensures err { OnErr result (self.new ≡ self.old) }
+    {
+        self.items.insert(at, (key, value))?;
+        Ok(())
+    }
+
+    #[tactic(auto, using(crate::proofs::Shown::shown_remove))]
+    pub(crate) fn remove(&mut self, at: usize)
+    where
+        X: Drop,
+        requires { at < length self.old }
+        ensures { self.new ≡ take at self.old ++ drop (at + 1) self.old }
+    {
+        let _gone = self.items.remove(at);
+    }
+
+    // Puts the value at the key in the part at a place.
+    #[tactic(auto, using(crate::proofs::Shown::shown_set))]
+    pub(crate) fn put_at<V>(
+        &mut self,
+        at: usize,
+        alloc: Global,
+        key: K,
+        value: &Arc<V>,
+    ) -> Result<Put, AllocError>
+    where
+        X: Level<K, V>,
+        requires within { at < length self.old }
+        requires leads { IfSome (slice_get self.old at) (λ p. first_key (X.pairs p.1) ≡ Some p.0) }
+        ensures put { IfOk result (λ r. IsChangedAt X.pairs self.old self.new at (λ was now. IsPut K.cmp (λ p. X.pairs p.1) was now key (arc_value value.now) r)) }
+        ensures err { OnErr result (self.new ≡ self.old) }
+    {
+        put_beside(&mut self.items[at], alloc, key, value)
+    }
+
+    // Takes the key out of the part at a place.
+    #[tactic(auto, using(crate::proofs::Shown::shown_set))]
+    pub(crate) fn take_at<V>(
+        &mut self,
+        at: usize,
+        alloc: Global,
+        key: &K,
+    ) -> Result<Taken, AllocError>
+    where
+        X: Level<K, V>,
+        requires within { at < length self.old }
+        requires leads { IfSome (slice_get self.old at) (λ p. first_key (X.pairs p.1) ≡ Some p.0) }
+        ensures taken { IfOk result (λ r. IsChangedAt X.pairs self.old self.new at (λ was now. IsTaken K.cmp (λ p. X.pairs p.1) was now key.now r)) }
+        ensures err { OnErr result (self.new ≡ self.old) }
+    {
+        take_beside(&mut self.items[at], alloc, key)
     }
 
     // The entry alone.
@@ -142,8 +294,8 @@ impl<K: Ord + Copy, X> Row<K, X> {
         requires { at + gone ≤ length self.now }
         ensures { IfOk result (λ r. r ≡ take at self.now ++ (new ++ drop (at + gone) self.now)) }
     {
-        let _len = self.len();
-        let mut row = Row::empty(alloc);
+        let room = (self.len() - gone).saturating_add(new.len());
+        let mut row = Row::with_room(alloc, room)?;
         row.copy_front(self, at)?;
         row.append(new)?;
         row.copy_back(self, at + gone)?;
@@ -160,7 +312,8 @@ impl<K: Ord + Copy, X> Row<K, X> {
         X: Drop,
         ensures { IfOk result (λ r. r ≡ self.now ++ other.now) }
     {
-        let mut items = Vec::new(alloc);
+        let room = self.len().saturating_add(other.len());
+        let mut items = Vec::with_capacity(alloc, room)?;
         copy_to(&mut items, &self.items)?;
         copy_to(&mut items, &other.items)?;
         Ok(Row { items })
@@ -192,4 +345,79 @@ fn copy_to<K: Ord + Copy, X: Drop>(
         items.push((*key, Arc::try_clone(value)?))?;
     }
     Ok(())
+}
+
+// Puts the value at the key in a part, where nobody else holds it.
+fn put_into<K: Ord + Copy, V, T: Level<K, V>>(
+    part: &mut Arc<T>,
+    alloc: Global,
+    key: K,
+    value: &Arc<V>,
+) -> Result<Put, AllocError>
+    ensures put { IfOk result (IsPut K.cmp T.pairs (arc_value part.old) (arc_value part.new) key (arc_value value.now)) }
+    ensures err { OnErr result (arc_value part.new ≡ arc_value part.old) }
+{
+    match Arc::get_mut(part) {
+        Some(part) => part.put(alloc, key, value),
+        None => Ok(Put::Refused),
+    }
+}
+
+// The same, with the first key beside the part.
+fn put_beside<K: Ord + Copy, V, T: Level<K, V>>(
+    item: &mut (K, Arc<T>),
+    alloc: Global,
+    key: K,
+    value: &Arc<V>,
+) -> Result<Put, AllocError>
+    requires { first_key (T.pairs (arc_value item.old.1)) ≡ Some item.old.0 }
+    ensures put { IfOk result (IsPut K.cmp (λ p. T.pairs p.1) (entry_shown item.old) (entry_shown item.new) key (arc_value value.now)) }
+    ensures leads { first_key (T.pairs (arc_value item.new.1)) ≡ Some item.new.0 }
+    ensures err { OnErr result (entry_shown item.new ≡ entry_shown item.old) }
+{
+    let put = put_into(&mut item.1, alloc, key, value)?;
+    match put {
+        Put::Added | Put::Replaced => {
+            if key.cmp(&item.0).is_lt() {
+                item.0 = key;
+            }
+        }
+        Put::Refused => {}
+    }
+    Ok(put)
+}
+
+// Takes the key out of a part, where nobody else holds it.
+fn take_out<K: Ord + Copy, V, T: Level<K, V>>(
+    part: &mut Arc<T>,
+    alloc: Global,
+    key: &K,
+) -> Result<Taken, AllocError>
+    ensures taken { IfOk result (IsTaken K.cmp T.pairs (arc_value part.old) (arc_value part.new) key.now) }
+    ensures err { OnErr result (arc_value part.new ≡ arc_value part.old) }
+{
+    match Arc::get_mut(part) {
+        Some(part) => part.take(alloc, key),
+        None => Ok(Taken::Kept),
+    }
+}
+
+// The same, with the first key beside the part.
+fn take_beside<K: Ord + Copy, V, T: Level<K, V>>(
+    item: &mut (K, Arc<T>),
+    alloc: Global,
+    key: &K,
+) -> Result<Taken, AllocError>
+    requires { first_key (T.pairs (arc_value item.old.1)) ≡ Some item.old.0 }
+    ensures taken { IfOk result (IsTaken K.cmp (λ p. T.pairs p.1) (entry_shown item.old) (entry_shown item.new) key.now) }
+    ensures leads { first_key (T.pairs (arc_value item.new.1)) ≡ Some item.new.0 }
+    ensures err { OnErr result (entry_shown item.new ≡ entry_shown item.old) }
+{
+    let taken = take_out(&mut item.1, alloc, key)?;
+    if let Taken::Removed = taken
+        && key.cmp(&item.0).is_eq()
+    {
+        item.0 = item.1.first().0;
+    }
+    Ok(taken)
 }

@@ -1,4 +1,3 @@
-use Rattle.std.proofs.Common.{◌≡◌}
 use Rattle.std.specs.Arc.{arc_value}
 use Rattle.un_pages.proofs.Nodes.{page_one}
 use Rattle.un_pages.proofs.page.Page.of.Goals as goal

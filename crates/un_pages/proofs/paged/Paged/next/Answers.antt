@@ -1,9 +1,8 @@
-use Rattle.std.proofs.Common.{◌≡◌, ◌∙◌, ap, sym}
-use Rattle.un_pages.specs.Pairs.{all_of}
-use Rattle.un_pages.proofs.Nodes.{past_none}
+use Rattle.un_pages.proofs.Steps.{held_step, held_last}
 use Rattle.un_pages.proofs.paged.Paged.next.Goals as goal
 
-pub returns-in-None : goal.returns-in-None
-returns-in-None g c =
-    let all : c.in_ok-root.root.now.value ≡ c.args.self.now = ap all_of c.in_ok-root.ensures.value ∙ c.self.view_is in
-    rw (c.in-None.is, past_none g.K.Ord.cmp c.args.self.now) (sym (rw (c.deref.ensures, all) at c.first.ensures))
+pub returns-clause-rest : goal.returns-clause-rest
+returns-clause-rest g c = held_step g.met.K.Ord.total c.args.after c.args.self.now c.first_past.result c.len-len.ensures.ordered c.first_past.ensures
+
+pub returns-clause-last : goal.returns-clause-last
+returns-clause-last g c = held_last g.met.K.Ord.total c.args.after c.args.self.now c.first_past.result c.first_past.ensures

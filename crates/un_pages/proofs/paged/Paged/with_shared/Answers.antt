@@ -1,4 +1,3 @@
-use Rattle.std.proofs.Common.{◌≡◌}
 use Rattle.std.specs.Arc.{arc_value}
 use Rattle.un_pages.proofs.Nodes.{counted_insert}
 use Rattle.un_pages.proofs.paged.Paged.with_shared.Goals as goal

@@ -1,4 +1,4 @@
-use Rattle.std.proofs.Common.{◌≡◌, ◌∙◌, sym, subst, refl}
+use Rattle.std.proofs.Common.{◌∙◌, sym, refl}
 use Rattle.un_pages.proofs.Splices.{on_ok}
 use Rattle.un_pages.proofs.Nodes.{remove_none}
 use Rattle.un_pages.proofs.paged.Paged.without.Goals as goal

@@ -1,4 +1,3 @@
-use Rattle.std.proofs.Common.{◌≡◌}
 use Rattle.un_pages.proofs.Nodes.{counted_remove}
 use Rattle.un_pages.proofs.paged.Paged.without_found.Goals as goal
 
