@@ -1,0 +1,216 @@
+// The list of areas.
+ghost use Rattle.std.specs.Prelude.{◌≡◌, ◌↔◌, ◌<◌, ◌≤◌, ◌+◌, ◌^◌, ◌++◌, not, map, filter, find, length, IfOk, IsErrOf};
+ghost use Rattle.std.specs.Option.{option_map};
+ghost use Rattle.std.specs.List.{enumerate_from, AllByRecursion};
+ghost use Rattle.un_geom.specs.Places.{meets, covers};
+ghost use Rattle.un_dirty.specs.Areas.{no_areas, added, cleared, least_number, without_all as all_removed, IsNumbered};
+
+use std::alloc::{AllocError, Global};
+use std::marker::Model;
+use thiserror::Error;
+use un_geom::{Point, Rect};
+use un_pages::{Memory, Paged};
+
+/// The most areas that a list has.
+pub const MOST_AREAS: u64 = 65_536;
+
+/// The numbered list of dirty areas. A list never changes: each call that would change it gives a new one.
+#[derive(Drop)]
+pub struct Dirty {
+    areas: Paged<u64, Rect>,
+    next: u64,
+}
+
+impl Model for Dirty {
+    ghost use Rattle.un_dirty.specs.Areas.{DirtyList, IsUnder};
+
+    ghost Value = { DirtyList };
+
+    ghost view = { λ d. record { areas = d.areas; next = d.next } };
+
+    ghost invariant = { λ d. IsUnder d.areas d.next };
+}
+
+/// Why rectangles do not become areas.
+#[derive(Clone, Copy, Debug, PartialEq, Eq, Error)]
+pub enum DirtyFault {
+    /// With them there would be more than 65,536 areas.
+    #[error("too many dirty areas")]
+    Full,
+    /// Out of memory.
+    #[error("out of memory")]
+    Memory,
+}
+
+impl From<AllocError> for DirtyFault {
+    ghost use Rattle.std.specs.Prelude.{◌≡◌};
+    ghost use Rattle.un_dirty.specs.declared.dirty.DirtyFault.TheVariants.{Memory};
+
+    ghost from_gives = { λ _ e. e ≡ Memory };
+
+    fn from(_error: AllocError) -> DirtyFault {
+        DirtyFault::Memory
+    }
+}
+
+impl Dirty {
+    /// The list without areas, which takes no memory. Its first area gets number 1.
+    pub fn new(_alloc: Global) -> Dirty
+        ensures { result ≡ no_areas }
+    {
+        Dirty {
+            areas: Paged::new(),
+            next: 1,
+        }
+    }
+
+    /// The number that the next area gets.
+    pub fn next_number(&self) -> u64
+        ensures next { result ≡ self.now.next }
+        ensures numbered { IsNumbered self.now }
+    {
+        let _len = self.areas.len();
+        self.next
+    }
+
+    /// How many areas there are.
+    pub fn len(&self) -> u64
+        ensures len { result ≡ length self.now.areas }
+        ensures few { length self.now.areas ≤ 65536 }
+    {
+        self.areas.len()
+    }
+
+    /// An equal list, which shares all pages.
+    pub fn share(&self) -> Result<Dirty, Memory>
+        ensures { IfOk result (λ d. d ≡ self.now) }
+    {
+        Ok(Dirty {
+            areas: self.areas.share()?,
+            next: self.next,
+        })
+    }
+
+    /// The list with the rectangles after its areas, in this order, numbered on.
+    pub fn add(&self, alloc: Global, rects: &[Rect]) -> Result<Dirty, DirtyFault>
+        requires next { self.now.next < 9_000_000_000_100_000 }
+        requires few { length rects.now < 2 ^ 32 }
+        ensures list { IfOk result (λ d. d ≡ added self.now rects.now) }
+        ensures full { IsErrOf result DirtyFault.Full ↔ (65536 < length self.now.areas + length rects.now) }
+    {
+        let count = rects.len() as u64;
+        if self.areas.len() + count > MOST_AREAS {
+            return Err(DirtyFault::Full);
+        }
+        let areas = extended(&self.areas, alloc, self.next, rects)?;
+        Ok(Dirty {
+            areas,
+            next: self.next + count,
+        })
+    }
+
+    /// The areas that meet the rectangle, with their numbers, rising.
+    pub fn meeting(&self, alloc: Global, extent: Rect) -> Result<Vec<(u64, Rect)>, Memory>
+        ensures { IfOk result (λ met. met.items ≡ filter (λ a. meets a.1 extent) self.now.areas) }
+    {
+        areas_meeting(&self.areas, alloc, &extent)
+    }
+
+    /// The list without the areas that meet the rectangle. Their numbers are not given again.
+    pub fn clear_meeting(&self, alloc: Global, extent: Rect) -> Result<Dirty, Memory>
+        ensures { IfOk result (λ d. d ≡ cleared self.now extent) }
+    {
+        Ok(Dirty {
+            areas: areas_apart(&self.areas, alloc, &extent)?,
+            next: self.next,
+        })
+    }
+
+    /// The least number of an area that covers the point.
+    pub fn least_at(&self, p: Point) -> Option<u64>
+        ensures first { result ≡ option_map (λ a. a.0) (find (λ a. covers a.1 p) self.now.areas) }
+        ensures least { result ≡ least_number (map (λ a. a.0) (filter (λ a. covers a.1 p) self.now.areas)) }
+    {
+        let _len = self.areas.len();
+        first_covering(&self.areas, p)
+    }
+}
+
+// The areas, with the rectangles after them.
+fn extended(
+    areas: &Paged<u64, Rect>,
+    alloc: Global,
+    first: u64,
+    rects: &[Rect],
+) -> Result<Paged<u64, Rect>, Memory>
+    requires under { AllByRecursion (λ a. a.0 < first) areas.now }
+    requires room { first + length rects.now < 2 ^ 64 }
+    ensures { IfOk result (λ m. m ≡ areas.now ++ enumerate_from first rects.now) }
+{
+    let mut extended = areas.share()?;
+    let mut number = first;
+    for rect in rects {
+        extended = extended.with(alloc, number, *rect)?;
+        number += 1;
+    }
+    Ok(extended)
+}
+
+fn areas_meeting(
+    areas: &Paged<u64, Rect>,
+    alloc: Global,
+    extent: &Rect,
+) -> Result<Vec<(u64, Rect)>, Memory>
+    ensures { IfOk result (λ met. met.items ≡ filter (λ a. meets a.1 extent.now) areas.now) }
+{
+    let mut met = Vec::new(alloc);
+    let mut after = None;
+    while let Some((number, rect)) = areas.next(after) {
+        if rect.meets(extent) {
+            met.push((number, **rect))?;
+        }
+        after = Some(number);
+    }
+    Ok(met)
+}
+
+// The areas that do not meet the rectangle.
+fn areas_apart(
+    areas: &Paged<u64, Rect>,
+    alloc: Global,
+    extent: &Rect,
+) -> Result<Paged<u64, Rect>, Memory>
+    ensures { IfOk result (λ m. m ≡ filter (λ a. not (meets a.1 extent.now)) areas.now) }
+{
+    let _len = areas.len();
+    let met = areas_meeting(areas, alloc, extent)?;
+    without_all(areas, alloc, met.as_slice())
+}
+
+// The areas without those with these numbers.
+fn without_all(
+    areas: &Paged<u64, Rect>,
+    alloc: Global,
+    gone: &[(u64, Rect)],
+) -> Result<Paged<u64, Rect>, Memory>
+    ensures { IfOk result (λ m. m ≡ all_removed areas.now gone.now) }
+{
+    let mut left = areas.share()?;
+    for area in gone {
+        left = left.without(alloc, &area.0)?;
+    }
+    Ok(left)
+}
+
+fn first_covering(areas: &Paged<u64, Rect>, p: Point) -> Option<u64>
+    ensures { result ≡ option_map (λ a. a.0) (find (λ a. covers a.1 p) areas.now) }
+{
+    let mut passed = None;
+    while let Some((number, rect)) = areas.next(passed) {
+        if rect.covers(p) {
+            return Some(number);
+        }
+        passed = Some(number);
+    }
+    None
+}

@@ -1,0 +1,120 @@
+// The map.
+ghost use Rattle.std.specs.Prelude.{◌≡◌, ◌∷◌, [], List, Option, None, Some, map, length, IfOk, IfSome, IfNone, if◌then◌else◌};
+ghost use Rattle.std.specs.Option.{option_copied};
+ghost use Rattle.std.specs.Arc.{arc_value};
+ghost use Rattle.std.specs.Map.{remove_entry};
+ghost use Rattle.std.specs.BTreeMap.{is_at, insert_entry};
+ghost use Rattle.un_geom.specs.declared.point.Point.{Point};
+ghost use Rattle.un_geom.specs.Places.{point_cmp, same_point};
+ghost use Rattle.un_pages.specs.Pairs.{pair_held, IsOrdered};
+ghost use Rattle.un_points.specs.PointMaps.{value_at, covered, covered_past};
+
+use crate::strip::{is_beyond, start};
+use std::alloc::{AllocError, Global};
+use std::marker::Model;
+use std::sync::Arc;
+use un_geom::{Point, Rect};
+use un_pages::Paged;
+
+/// A map from points. A map never changes: each call that would change it gives a new one, which shares its pages.
+#[derive(Drop)]
+pub struct PointMap<V: Drop> {
+    pairs: Paged<Point, V>,
+}
+
+impl<V: Drop> Model for PointMap<V> {
+    ghost use Rattle.std.specs.Prelude.{List};
+    ghost use Rattle.un_geom.specs.declared.point.Point.{Point};
+
+    ghost Value = { List (Point × V) };
+
+    ghost view = { λ m. m.pairs };
+}
+
+impl<V: Drop> PointMap<V> {
+    /// The empty map, which takes no memory.
+    pub fn new() -> PointMap<V>
+        ensures { result ≡ [] }
+    {
+        PointMap {
+            pairs: Paged::new(),
+        }
+    }
+
+    /// How many points have a value.
+    pub fn len(&self) -> u64
+        ensures len { result ≡ length self.now }
+        ensures ordered { IsOrdered point_cmp self.now }
+    {
+        self.pairs.len()
+    }
+
+    /// The value at the point.
+    pub fn get(&self, p: Point) -> Option<&V>
+        ensures { option_copied result ≡ value_at p self.now }
+    {
+        self.pairs.get(&p)
+    }
+
+    /// The map with the value at the point.
+    pub fn with(&self, alloc: Global, p: Point, value: Arc<V>) -> Result<PointMap<V>, AllocError>
+        ensures list { IfOk result (λ m. m ≡ insert_entry point_cmp self.now p (arc_value value)) }
+        ensures values { IfOk result (λ m. (q : Point) → value_at q m ≡ (if same_point q p then Some (arc_value value) else value_at q self.now)) }
+    {
+        Ok(PointMap {
+            pairs: self.pairs.with_shared(alloc, p, value)?,
+        })
+    }
+
+    /// The map without the point: an equal map, where the point has no value.
+    pub fn without(&self, alloc: Global, p: Point) -> Result<PointMap<V>, AllocError>
+        ensures list { IfOk result (λ m. m ≡ remove_entry (is_at (point_cmp p)) self.now) }
+        ensures values { IfOk result (λ m. (q : Point) → value_at q m ≡ (if same_point q p then None else value_at q self.now)) }
+    {
+        let _len = self.pairs.len();
+        Ok(PointMap {
+            pairs: self.pairs.without(alloc, &p)?,
+        })
+    }
+
+    /// An equal map, which shares all pages.
+    pub fn share(&self) -> Result<PointMap<V>, AllocError>
+        ensures { IfOk result (λ m. m ≡ self.now) }
+    {
+        Ok(PointMap {
+            pairs: self.pairs.share()?,
+        })
+    }
+
+    /// The first pair past the point, or of all, whose point the rectangle covers.
+    pub fn next_under(&self, extent: &Rect, after: Option<Point>) -> Option<(Point, &Arc<V>)>
+        ensures rest { IfSome result (λ e. covered_past extent.now after self.now ≡ pair_held e ∷ covered_past extent.now (Some e.0) self.now) }
+        ensures last { IfNone result (covered_past extent.now after self.now ≡ []) }
+    {
+        let _len = self.pairs.len();
+        let mut passed = start(extent, after);
+        while let Some((point, value)) = self.pairs.next(passed) {
+            if is_beyond(extent, point) {
+                return None;
+            }
+            if extent.covers(point) {
+                return Some((point, value));
+            }
+            passed = Some(point);
+        }
+        None
+    }
+
+    /// The points that the rectangle covers, rising.
+    pub fn points(&self, alloc: Global, extent: &Rect) -> Result<Vec<Point>, AllocError>
+        ensures { IfOk result (λ points. points.items ≡ map (λ e. e.0) (covered extent.now self.now)) }
+    {
+        let mut points = Vec::new(alloc);
+        let mut after = None;
+        while let Some((point, _)) = self.next_under(extent, after) {
+            points.push(point)?;
+            after = Some(point);
+        }
+        Ok(points)
+    }
+}

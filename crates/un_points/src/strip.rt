@@ -1,0 +1,63 @@
+// The run of points whose x is between the sides of a rectangle.
+ghost use Rattle.std.specs.Prelude.{◌≡◌, ◌↔◌, Bool, true, false, Some, IsTrue, pos, neg_ℤ, ◌-ℤ◌, ◌<ℤ◌, ◌≤ℤ◌};
+ghost use Rattle.std.specs.declared.cmp.Ordering.TheVariants.{Less};
+ghost use Rattle.un_geom.specs.declared.point.Point.{Point};
+ghost use Rattle.un_geom.specs.Places.{covers, point_cmp};
+ghost use Rattle.un_pages.specs.Pairs.{is_past};
+
+use un_geom::{Point, Rect};
+
+// Where a walk over the points under the rectangle may begin that is to begin after a point, or at the first point.
+pub(crate) fn start(extent: &Rect, after: Option<Point>) -> Option<Point>
+    ensures { (q : Point) → covers extent.now q ≡ true → is_past point_cmp result q ≡ is_past point_cmp after q }
+{
+    let x0 = left(extent);
+    let Some(point) = after else {
+        return Some(left_of(x0));
+    };
+    if is_below(point.x, x0) {
+        return Some(left_of(x0));
+    }
+    Some(point)
+}
+
+// Whether the point and all after it are beyond the rectangle.
+pub(crate) fn is_beyond(extent: &Rect, point: Point) -> bool
+    ensures own { result ≡ true → covers extent.now point ≡ false }
+    ensures all { (q : Point) → result ≡ true → point_cmp point q ≡ Less → covers extent.now q ≡ false }
+{
+    is_below(right(extent), point.x)
+}
+
+fn left(extent: &Rect) -> i32
+    ensures side { result ≡ extent.now.x0 }
+    ensures low { neg_ℤ (pos 1_000_000_000) ≤ℤ result }
+{
+    let [x0, _, _, _] = extent.sides();
+    x0
+}
+
+fn right(extent: &Rect) -> i32
+    ensures { result ≡ extent.now.x1 }
+{
+    let [_, _, x1, _] = extent.sides();
+    x1
+}
+
+fn is_below(low: i32, high: i32) -> bool
+    ensures { IsTrue result ↔ (low <ℤ high) }
+{
+    low < high
+}
+
+// The last point whose x is below the number.
+fn left_of(x: i32) -> Point
+    requires { neg_ℤ (pos 1_000_000_000) ≤ℤ x }
+    ensures { result.x <ℤ x }
+{
+    Point {
+        x: x - 1,
+        y: i32::MAX,
+        z: i32::MAX,
+    }
+}
