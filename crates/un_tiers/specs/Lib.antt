@@ -1,0 +1,4 @@
+pub mod Raw
+pub mod Faults
+pub mod Lists
+pub mod Code
