@@ -1,0 +1,4 @@
+pub mod Held
+pub mod Dues
+pub mod Makings
+mod Samples

@@ -1,0 +1,4 @@
+pub mod Keyed
+pub mod Words
+pub mod Refusals
+pub mod Edits

@@ -1,0 +1,40 @@
+-- Which word an edit has.
+use Rattle.std.specs.Prelude.{⊤}
+use Rattle.un_defs.specs.declared.edit.Edit.{Edit}
+use Rattle.un_defs.specs.declared.edit.Edit.TheVariants as edit
+
+abbrev pub IsInsert : Edit → Type 0
+IsInsert (edit.Insert kind points attrs flow ends note) = ⊤
+IsInsert _ = ⊥
+
+abbrev pub IsReshape : Edit → Type 0
+IsReshape (edit.Reshape id base points) = ⊤
+IsReshape _ = ⊥
+
+abbrev pub IsAttrs : Edit → Type 0
+IsAttrs (edit.Attrs id base attrs) = ⊤
+IsAttrs _ = ⊥
+
+abbrev pub IsKind : Edit → Type 0
+IsKind (edit.Kind id base kind) = ⊤
+IsKind _ = ⊥
+
+abbrev pub IsPath : Edit → Type 0
+IsPath (edit.Path id base path) = ⊤
+IsPath _ = ⊥
+
+abbrev pub IsFlow : Edit → Type 0
+IsFlow (edit.Flow id base flow) = ⊤
+IsFlow _ = ⊥
+
+abbrev pub IsEnds : Edit → Type 0
+IsEnds (edit.Ends id base ends) = ⊤
+IsEnds _ = ⊥
+
+abbrev pub IsNote : Edit → Type 0
+IsNote (edit.Note id base note) = ⊤
+IsNote _ = ⊥
+
+abbrev pub IsDelete : Edit → Type 0
+IsDelete (edit.Delete id base) = ⊤
+IsDelete _ = ⊥

@@ -1,0 +1,21 @@
+//! The live features of a network, by id.
+//!
+//! A store is an ordered map on shared pages, from the id of a feature to its row. Each edit of a row gives a new store and
+//! leaves the old one as it was: the two share all pages but those on the way to the row. A look-up and an edit take time by
+//! the logarithm of the count of rows, and a row that is changed is copied once, with its points and its note.
+//!
+//! Before an edit is made, what may refuse it is looked at in a set order, and the first refusal is the answer. Each such check
+//! is a function of its own in `checks`, with the same two clauses: where it lets the edit pass nothing is due, and a refusal
+//! that it answers is the one that is due, unless there was no memory.
+#![tactic(auto)]
+
+mod checks;
+pub mod edits;
+pub mod insert;
+pub mod laws;
+mod parts;
+pub mod store;
+#[cfg(test)]
+mod tests;
+
+pub use store::Store;

@@ -1,0 +1,116 @@
+//! The store.
+ghost use Rattle.std.specs.Prelude.{◌≡◌, ◌<◌, ◌==◌, not, ◌++◌, ◌∷◌, [], filter, All, None, Some, IfOk, OnOk, IfErr, length};
+ghost use Rattle.std.specs.Option.{option_copied};
+ghost use Rattle.un_store.specs.Keyed.{IsRising, row_with};
+ghost use Rattle.un_store.specs.Refusals.{no_row};
+ghost use Rattle.un_store.specs.Edits.{IsReplaced};
+
+use std::alloc::{AllocError, Global};
+use std::marker::Model;
+use un_defs::{Lookup, Refusal, Row};
+use un_pages::Paged;
+
+/// The live features of a network. Contracts see their rows, by rising id.
+#[derive(Drop)]
+pub struct Store {
+    rows: Paged<u64, Row>,
+}
+
+impl Model for Store {
+    ghost use Rattle.std.specs.Prelude.{List};
+    ghost use Rattle.std.specs.Map.{values_of};
+    ghost use Rattle.un_defs.specs.declared.row.Row.{Row};
+    ghost use Rattle.un_store.specs.Keyed.{IsKeyed};
+
+    ghost Value = { List Row };
+
+    ghost view = { λ s. values_of s.rows };
+
+    ghost invariant = { λ s. IsKeyed s.rows };
+}
+
+impl Store {
+    /// The store without features. It takes no memory.
+    pub fn new(_alloc: Global) -> Store
+        ensures { result ≡ [] }
+    {
+        Store { rows: Paged::new() }
+    }
+
+    /// How many features there are.
+    pub fn len(&self) -> u64
+        ensures count { result ≡ length self.now }
+        ensures rising { IsRising self.now }
+    {
+        self.rows.len()
+    }
+
+    /// The row with this id, if there is one.
+    pub fn row(&self, id: u64) -> Option<&Row>
+        ensures { option_copied result ≡ row_with self.now id }
+    {
+        self.rows.get(&id)
+    }
+
+    /// An equal store, which shares all pages.
+    pub fn share(&self) -> Result<Store, AllocError>
+        ensures { IfOk result (λ store. store ≡ self.now) }
+    {
+        let rows = self.rows.share()?;
+        Ok(Store { rows })
+    }
+
+    /// The store with one more row, whose id is over all others.
+    pub(crate) fn with_new(&self, alloc: Global, row: Row) -> Result<Store, AllocError>
+        requires { All (λ r. r.id < row.id) self.now }
+        ensures { IfOk result (λ store. store ≡ self.now ++ row ∷ []) }
+    {
+        let rows = self.rows.with(alloc, row.id, row)?;
+        Ok(Store { rows })
+    }
+}
+
+impl Store {
+    /// The row with this id and this moment.
+    pub(crate) fn found(&self, id: u64, base: u64) -> Result<&Row, Refusal>
+        ensures row { IfOk result (λ row. row_with self.now id ≡ Some row.now) }
+        ensures id { IfOk result (λ row. row.now.id ≡ id) }
+        ensures good { OnOk result (no_row self.now id base ≡ None) }
+        ensures bad { IfErr result (λ refusal. no_row self.now id base ≡ Some refusal) }
+    {
+        let Some(row) = self.row(id) else {
+            return Err(Refusal::NoSuchFeature { id });
+        };
+        if row.moment != base {
+            return Err(Refusal::Moved { at: row.moment });
+        }
+        Ok(row)
+    }
+
+    /// The store with a row in place of the one with this id.
+    pub(crate) fn with_changed(&self, alloc: Global, id: u64, row: Row) -> Result<Store, AllocError>
+        requires { row.id ≡ id }
+        ensures { IfOk result (IsReplaced self.now id row) }
+    {
+        let rows = self.rows.with(alloc, id, row)?;
+        Ok(Store { rows })
+    }
+
+    /// The store without the row with this id.
+    pub(crate) fn without(&self, alloc: Global, id: u64) -> Result<Store, AllocError>
+        ensures { IfOk result (λ store. store ≡ filter (λ r. not (r.id == id)) self.now) }
+    {
+        let rows = self.rows.without(alloc, &id)?;
+        Ok(Store { rows })
+    }
+}
+
+impl Lookup for Store {
+    ghost use Rattle.un_store.specs.Edits.{only_rows};
+
+    ghost features = { λ rows. only_rows rows };
+
+    fn row(&self, id: u64) -> Option<&Row> {
+        Store::row(self, id)
+    }
+}
