@@ -1,0 +1,5 @@
+pub mod Inserting
+pub mod Places
+pub mod Putting
+pub mod Numbered
+pub mod Gathering

@@ -1,0 +1,16 @@
+use Rattle.std.proofs.Common.{◌≡◌, take, take_all, sym, subst}
+use Rattle.std.proofs.lemmas.List.{take_more}
+use Rattle.un_grid.specs.Grids.{HasNodes}
+use Rattle.un_grid.proofs.Gathering.{none_yet, one_more}
+use Rattle.un_grid.proofs.grid.Grid.with_nodes.Goals as goal
+
+pub loop-node-init : goal.loop-node-init
+loop-node-init c = none_yet c.args.self.now c.in_ok-grid.grid c.share.ensures.grid c.in_ok-grid.ensures.same
+
+pub loop-node-preserved : goal.loop-node-preserved
+loop-node-preserved c =
+    subst (λ ns. HasNodes c.args.self.now ns c.in_ok-grid-2.grid) (sym (take_more c.args.nodes.now c.loop-node.node-index _ c.loop-node-test.true))
+    (one_more c.args.self.now c.loop-node.grid c.in_ok-grid-2.grid (take c.loop-node.node-index c.args.nodes.now) _ c.loop-node.invariant c.in_ok-grid-2.ensures)
+
+pub returns : goal.returns
+returns c = subst (λ ns. HasNodes c.args.self.now ns c.loop-node.grid) (take_all c.loop-node.node-index c.args.nodes.now c.loop-node-test.false) c.loop-node.invariant

@@ -1,0 +1,107 @@
+ghost use Rattle.std.specs.Prelude.{◌≡◌, [], ◌++◌, IfOk, map, if◌then◌else◌};
+ghost use Rattle.std.specs.BTreeSet.{insert_key};
+ghost use Rattle.un_geom.specs.declared.point.Point.{Point};
+ghost use Rattle.un_geom.specs.Places.{same_point};
+ghost use Rattle.un_points.specs.PointMaps.{covered};
+ghost use Rattle.un_defs.specs.Orders.{port_cmp};
+ghost use Rattle.un_grid.specs.Grids.{ports_in, IsGrid, HasNodes, HasRow};
+
+use crate::nodes::nodes_of;
+use crate::port_list::with_port;
+use std::alloc::{AllocError, Global};
+use std::marker::Model;
+use std::sync::Arc;
+use un_defs::port::Ports;
+use un_defs::{Node, Port, Row};
+use un_geom::{Point, Rect};
+use un_points::PointMap;
+
+/// The points at which ports stand, each with its ports. A grid never changes: each call that would change it gives a new one.
+#[derive(Drop)]
+pub struct Grid {
+    points: PointMap<Ports>,
+}
+
+impl Model for Grid {
+    ghost use Rattle.std.specs.Prelude.{List};
+    ghost use Rattle.un_geom.specs.declared.point.Point.{Point};
+    ghost use Rattle.un_defs.specs.declared.port.Port.{Port};
+    ghost use Rattle.un_grid.specs.Grids.{IsGrid};
+
+    ghost Value = { List (Point × List Port) };
+
+    ghost view = { λ g. g.points };
+
+    ghost invariant = { λ g. IsGrid g.points };
+}
+
+impl Grid {
+    /// The grid where nothing stands, which takes no memory.
+    pub fn new(_alloc: Global) -> Grid
+        ensures { result ≡ [] }
+    {
+        Grid {
+            points: PointMap::new(),
+        }
+    }
+
+    /// An equal grid, which shares all pages.
+    pub fn share(&self) -> Result<Grid, AllocError>
+        ensures same { IfOk result (λ g. g ≡ self.now) }
+        ensures grid { IsGrid self.now }
+    {
+        Ok(Grid {
+            points: self.points.share()?,
+        })
+    }
+
+    /// The ports that stand at the point, rising.
+    pub fn at(&self, p: Point) -> &[Port]
+        ensures ports { result.now ≡ ports_in self.now p }
+        ensures grid { IsGrid self.now }
+    {
+        match self.points.get(p) {
+            Some(ports) => ports.as_slice(),
+            None => &[],
+        }
+    }
+
+    /// The points at which a port stands and that the rectangle covers, rising.
+    pub fn points(&self, alloc: Global, extent: Rect) -> Result<Vec<Point>, AllocError>
+        ensures points { IfOk result (λ points. points.items ≡ map (λ pair. pair.0) (covered extent self.now)) }
+        ensures grid { IsGrid self.now }
+    {
+        self.points.points(alloc, &extent)
+    }
+
+    // The grid with one port more at a point.
+    fn with_port(&self, alloc: Global, p: Point, port: Port) -> Result<Grid, AllocError>
+        ensures { IfOk result (λ g. (r : Point) → ports_in g r ≡ (if same_point r p then insert_key port_cmp (ports_in self.now p) port else ports_in self.now r)) }
+    {
+        let ports = with_port(alloc, self.at(p), port)?;
+        Ok(Grid {
+            points: self
+                .points
+                .with(alloc, p, Arc::new(alloc, Ports::new(ports))?)?,
+        })
+    }
+
+    // The grid with the ports of some nodes besides its own.
+    fn with_nodes(&self, alloc: Global, nodes: &[Node]) -> Result<Grid, AllocError>
+        ensures { IfOk result (HasNodes self.now nodes.now) }
+    {
+        let mut grid = self.share()?;
+        for node in nodes {
+            grid = grid.with_port(alloc, node.at, node.port)?;
+        }
+        Ok(grid)
+    }
+
+    /// The grid with the ports of the row besides its own.
+    pub fn insert(&self, alloc: Global, row: &Row) -> Result<Grid, AllocError>
+        ensures { IfOk result (λ g. HasRow self.now g row.now) }
+    {
+        let nodes = nodes_of(alloc, row)?;
+        self.with_nodes(alloc, &nodes)
+    }
+}
