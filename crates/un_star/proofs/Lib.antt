@@ -1,0 +1,12 @@
+pub mod RowFacts
+pub mod ListSteps
+pub mod Grouping
+pub mod OrdersAlike
+pub mod Places
+pub mod Paths
+pub mod Apart
+pub mod Standers
+pub mod Coins
+pub mod LinksHere
+pub mod EntriesHere
+pub mod FaultsHere

@@ -1,0 +1,5 @@
+pub mod Meet
+pub mod Turns
+pub mod Entries
+pub mod Faults
+pub mod Named

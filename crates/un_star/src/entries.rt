@@ -1,0 +1,196 @@
+//! The entries of the ports at a point.
+
+ghost use Rattle.std.specs.Prelude.{◌≡◌, ◌==◌, ◌<◌, ◌++◌, Some, IfOk, OnOk, length, map, filter, find, option_to_list};
+ghost use Rattle.std.specs.Option.{option_map, option_copied};
+ghost use Rattle.un_schema.specs.Catalog.{cats_of};
+ghost use Rattle.un_defs.specs.Features.{row as row_of};
+ghost use Rattle.un_defs.specs.Star.{controller_at, is_containment, is_attachment};
+ghost use Rattle.un_star.specs.Meet.{IsMeeting};
+ghost use Rattle.un_star.specs.Entries.{permitted_at, container_among, contents_among, structures_among, spot_here, spots_here};
+
+use crate::meet::Meeting;
+use crate::order::rising;
+use crate::permit::permitted;
+use crate::turns::ties_of;
+use std::alloc::{AllocError, Global};
+use un_attrs::Cats;
+use un_defs::{Assoc, AssocKind, Controller, Ids, Node, Port, Row, Rows, Spot};
+use un_schema::Schema;
+
+/// The permitted associations by which the row contains or is contained.
+fn containments<R: Rows>(alloc: Global, rows: &R, id: u64) -> Result<Vec<Assoc>, AllocError>
+    ensures { IfOk result (λ found. found.items ≡ permitted_at (R.features rows.now) is_containment id) }
+{
+    rows.assocs_of(id)
+        .iter()
+        .copied()
+        .filter(|assoc| assoc.sort == AssocKind::Containment && permitted(rows, assoc))
+        .collect(alloc)
+}
+
+/// The permitted associations by which something is attached to the row or the row to something.
+fn attachments<R: Rows>(alloc: Global, rows: &R, id: u64) -> Result<Vec<Assoc>, AllocError>
+    ensures { IfOk result (λ found. found.items ≡ permitted_at (R.features rows.now) is_attachment id) }
+{
+    rows.assocs_of(id)
+        .iter()
+        .copied()
+        .filter(|assoc| assoc.sort == AssocKind::Attachment && permitted(rows, assoc))
+        .collect(alloc)
+}
+
+/// The first of the associations of which the row is the content.
+fn containing(found: &[Assoc], id: u64) -> Option<&Assoc>
+    ensures { option_copied result ≡ find (λ a. a.to.feature == id) found.now }
+{
+    found.iter().find(|assoc| assoc.to.feature == id)
+}
+
+/// The id of the container, 0 where there is none.
+fn container(found: &[Assoc], id: u64) -> u64
+    ensures { result ≡ container_among found.now id }
+{
+    match containing(found, id) {
+        Some(assoc) => assoc.from.feature,
+        None => 0,
+    }
+}
+
+fn content_ids(alloc: Global, found: &[Assoc], id: u64) -> Result<Vec<u64>, AllocError>
+    ensures { IfOk result (λ ids. ids.items ≡ map (λ a. a.to.feature) (filter (λ a. a.from.feature == id) found.now)) }
+{
+    found
+        .iter()
+        .filter(|assoc| assoc.from.feature == id)
+        .map(|assoc| assoc.to.feature)
+        .collect(alloc)
+}
+
+/// The ids of the contents, rising.
+fn contents(alloc: Global, found: &[Assoc], id: u64) -> Result<Ids, AllocError>
+    ensures { IfOk result (λ ids. ids ≡ contents_among found.now id) }
+{
+    let ids = content_ids(alloc, found, id)?;
+    let ids = rising(alloc, ids.as_slice())?;
+    Ok(Ids::new(ids))
+}
+
+fn structure_ids(alloc: Global, found: &[Assoc], id: u64) -> Result<Vec<u64>, AllocError>
+    ensures { IfOk result (λ ids. ids.items ≡ map (λ a. a.from.feature) (filter (λ a. a.to.feature == id) found.now)) }
+{
+    found
+        .iter()
+        .filter(|assoc| assoc.to.feature == id)
+        .map(|assoc| assoc.from.feature)
+        .collect(alloc)
+}
+
+/// The ids of the structures to which the row is attached, rising.
+fn structures(alloc: Global, found: &[Assoc], id: u64) -> Result<Ids, AllocError>
+    ensures { IfOk result (λ ids. ids ≡ structures_among found.now id) }
+{
+    let ids = structure_ids(alloc, found, id)?;
+    let ids = rising(alloc, ids.as_slice())?;
+    Ok(Ids::new(ids))
+}
+
+/// The controller on a port, in memory of its own.
+fn controller<R: Rows>(
+    alloc: Global,
+    rows: &R,
+    port: Port,
+) -> Result<Option<Controller>, AllocError>
+    ensures { IfOk result (λ controller. controller ≡ controller_at (R.features rows.now) port) }
+{
+    match rows.controller_at(port) {
+        Some(controller) => {
+            let subnet = controller.subnet.copy(alloc)?;
+            Ok(Some(Controller {
+                port: controller.port,
+                tier: controller.tier,
+                subnet,
+            }))
+        }
+        None => Ok(None),
+    }
+}
+
+/// The categories of a kind.
+fn cats(schema: &Schema, kind: u16) -> Cats
+    requires { kind < length schema.now.kinds }
+    ensures { result ≡ cats_of schema.now kind }
+{
+    schema.kind_at(kind).cats
+}
+
+/// The entry of a port of a row.
+fn spot<R: Rows>(
+    alloc: Global,
+    rows: &R,
+    meeting: &Meeting,
+    port: Port,
+    row: &Row,
+) -> Result<Spot, AllocError>
+    requires meeting { IsMeeting (R.catalog rows.now) (R.features rows.now) meeting.now }
+    requires row { row_of (R.features rows.now) port.feature ≡ Some row.now }
+    ensures { IfOk result (λ spot. spot
+        ≡ spot_here (R.catalog rows.now) (R.features rows.now) meeting.now.at port row.now) }
+{
+    let node = Node {
+        port,
+        at: meeting.at,
+    };
+    let ties = ties_of(alloc, rows, meeting, node, row)?;
+    let controller = controller(alloc, rows, port)?;
+    let contained = containments(alloc, rows, row.id)?;
+    let contents = contents(alloc, contained.as_slice(), row.id)?;
+    let attached = attachments(alloc, rows, row.id)?;
+    let structures = structures(alloc, attached.as_slice(), row.id)?;
+    Ok(Spot {
+        port,
+        kind: row.kind,
+        class: row.class,
+        cats: cats(rows.schema(), row.kind),
+        attrs: row.attrs.copy(),
+        ties,
+        controller,
+        container: container(contained.as_slice(), row.id),
+        contents,
+        structures,
+    })
+}
+
+/// Adds the entry of a port.
+fn add_spot<R: Rows>(
+    spots: &mut Vec<Spot>,
+    alloc: Global,
+    rows: &R,
+    meeting: &Meeting,
+    port: Port,
+) -> Result<(), AllocError>
+    requires { IsMeeting (R.catalog rows.now) (R.features rows.now) meeting.now }
+    ensures { OnOk result (spots.new.items ≡ spots.old.items ++ option_to_list
+        (option_map (spot_here (R.catalog rows.now) (R.features rows.now) meeting.now.at port) (row_of (R.features rows.now) port.feature))) }
+{
+    if let Some(row) = rows.row(port.feature) {
+        let spot = spot(alloc, rows, meeting, port, row)?;
+        spots.push(spot)?;
+    }
+    Ok(())
+}
+
+/// The entries of the ports at a point, in their order.
+pub(crate) fn spots_here<R: Rows>(
+    alloc: Global,
+    rows: &R,
+    meeting: &Meeting,
+) -> Result<Vec<Spot>, AllocError>
+    requires { IsMeeting (R.catalog rows.now) (R.features rows.now) meeting.now }
+    ensures { IfOk result (λ spots. spots.items ≡ spots_here (R.catalog rows.now) (R.features rows.now) meeting.now.at) }
+{
+    let mut spots = Vec::new(alloc);
+    for port in rows.ports_at(meeting.at) {
+        add_spot(&mut spots, alloc, rows, meeting, *port)?;
+    }
+    Ok(spots)
+}

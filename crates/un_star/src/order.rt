@@ -1,0 +1,72 @@
+//! Lists in rising order, of elements that tie one.
+
+ghost use Rattle.std.specs.Prelude.{◌≡◌, IfOk, map};
+ghost use Rattle.un_defs.specs.Orders.{rising, tie_cmp, error_cmp};
+ghost use Rattle.un_star.specs.Named.{named};
+
+use std::alloc::{AllocError, Global};
+use std::collections::BTreeSet;
+use un_defs::{LinkName, Tie, TopoError};
+
+/// The elements in rising order, of those that tie one.
+pub(crate) fn rising<T: Ord + Copy>(alloc: Global, xs: &[T]) -> Result<Vec<T>, AllocError>
+    ensures { IfOk result (λ ys. ys.items ≡ rising T.cmp xs.now) }
+{
+    let mut set = BTreeSet::new(alloc);
+    let count = xs.len();
+    for done in 0..count {
+        set.insert(xs[count - 1 - done])?;
+    }
+    set.into_iter().collect(alloc)
+}
+
+/// A link as one of its two ends has it, which compares by the link's name.
+#[derive(Clone, Copy)]
+#[derive_where(PartialEq, Eq, PartialOrd, Ord)]
+struct ByName {
+    name: LinkName,
+    #[derive_where(skip(EqHashOrd))]
+    tie: Tie,
+}
+
+fn by_name(tie: &Tie) -> ByName
+    ensures { result ≡ named tie.now }
+{
+    ByName {
+        name: tie.name,
+        tie: *tie,
+    }
+}
+
+fn with_names(alloc: Global, ties: &[Tie]) -> Result<Vec<ByName>, AllocError>
+    ensures { IfOk result (λ all. all.items ≡ map named ties.now) }
+{
+    ties.iter().map(|tie| by_name(tie)).collect(alloc)
+}
+
+fn without_names(alloc: Global, all: &[ByName]) -> Result<Vec<Tie>, AllocError>
+    ensures { IfOk result (λ ties. ties.items ≡ map (λ b. b.tie) all.now) }
+{
+    all.iter().map(|named| named.tie).collect(alloc)
+}
+
+/// The links in the order of their names.
+pub(crate) fn rising_ties(alloc: Global, ties: &[Tie]) -> Result<Vec<Tie>, AllocError>
+    ensures { IfOk result (λ in_order. in_order.items ≡ rising tie_cmp ties.now) }
+{
+    let all = with_names(alloc, ties)?;
+    let all = rising(alloc, all.as_slice())?;
+    let ties = without_names(alloc, all.as_slice())?;
+    Ok(ties)
+}
+
+/// The errors in their order.
+pub(crate) fn rising_errors(
+    alloc: Global,
+    errors: &[TopoError],
+) -> Result<Vec<TopoError>, AllocError>
+    ensures { IfOk result (λ in_order. in_order.items ≡ rising error_cmp errors.now) }
+{
+    let errors = rising(alloc, errors)?;
+    Ok(errors)
+}
