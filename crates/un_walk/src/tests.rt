@@ -1,10 +1,10 @@
 //! Walks through a pump between two mains.
 //!
 //! The contract of a walk bounds its count of steps, and no clause says that each look-up of a star is counted. So this ground, a list,
-//! counts how often it is asked. Each test has the number worked out by hand: one for each node from which the walk may go on, and so at
-//! most one for each node that it reaches.
+//! counts how often it is asked. Each test has the number worked out by hand: one for each node at which the walk reads the entry, and so
+//! at most one for each node that it reaches; and one more for each path to another point whose far controller is asked for.
 
-ghost use Rattle.std.specs.Prelude.{◌≡◌, true, false, pos, find, [], ◌∷◌, if◌then◌else◌};
+ghost use Rattle.std.specs.Prelude.{◌≡◌, true, false, pos, find, [], ◌∷◌, if◌then◌else◌, codes};
 ghost use Rattle.std.specs.Option.{option_copied, option_map_or};
 ghost use Rattle.std.proofs.Common.{arith};
 ghost use Rattle.un_geom.specs.declared.point.Point.{Point};
@@ -18,6 +18,7 @@ use std::alloc::{AllocError, Global};
 use std::cell::Cell;
 use std::test::Fail;
 use un_attrs::{Attrs, Cats};
+use un_conds::{Cond, Names, RawCond, Text};
 use un_defs::link::Ties;
 use un_defs::lists::Ids;
 use un_defs::port::Ports;
@@ -165,13 +166,14 @@ fn terminals(alloc: Global) -> Result<(Spot, Spot), AllocError> {
         tie(path(), node(1, 2, 0), true, false),
         Some(tie(coin(1, 3), node(3, 0, 0), true, true)),
     )?;
-    let outlet = spot(
+    let mut outlet = spot(
         alloc,
         node(1, 2, 0).port,
         Class::Device,
         tie(path(), node(1, 1, 0), false, true),
         Some(tie(coin(2, 2), node(2, 0, 0), true, true)),
     )?;
+    outlet.cats = Cats(1);
     Ok((inlet, outlet))
 }
 
@@ -199,7 +201,7 @@ fn far_vertex(alloc: Global, at: Node, link: Tie) -> Result<Star, AllocError> {
 }
 
 /// Pump 1 and the first vertices of the mains 2 and 3 stand at one point. Main 2 goes 10 east from there with its flow, main 3
-/// goes 10 west against its flow.
+/// goes 10 west against its flow. The outlet of the pump has the category 0.
 fn pumped(alloc: Global, with_dirt: bool) -> Result<Listed, AllocError> {
     let (inlet, outlet) = terminals(alloc)?;
     let (east, west) = first_vertices(alloc)?;
@@ -234,23 +236,52 @@ fn walked(
     over: &Listed,
     start: Node,
     mode: Mode,
-    stops: Vec<Port>,
+    barriers: &Barriers,
 ) -> Result<Reached, AllocError> {
     reach(
         alloc,
         over,
         &[start],
         mode,
-        &barriers(stops),
+        barriers,
         &mut Steps::<u8>::new(),
     )
+}
+
+/// No attributes, and one category.
+struct Isolating;
+
+impl Names for Isolating {
+    ghost attributes = { λ _. [] };
+
+    ghost categories = { λ _. codes "isolating" ∷ [] };
+
+    fn attribute(&self, _name: &str) -> Option<u8> {
+        None
+    }
+
+    fn category(&self, name: &str) -> Option<u8> {
+        if name == "isolating" { Some(0) } else { None }
+    }
+}
+
+/// The condition that holds of the pump's outlet alone.
+fn is_outlet(alloc: Global) -> Result<Cond, Fail> {
+    let name = Text::new(String::from_str(alloc, "isolating")?);
+    Ok(Cond::resolve(alloc, &RawCond::Has(name), &Isolating)?)
 }
 
 #[test]
 fn flow_leads_downstream_through_the_pump(rt: HostRuntime) -> Result<(), Fail> {
     let alloc = rt.alloc();
     let over = pumped(alloc, false)?;
-    let reached = walked(alloc, &over, node(3, 1, -10), Mode::Along, Vec::new(alloc))?;
+    let reached = walked(
+        alloc,
+        &over,
+        node(3, 1, -10),
+        Mode::Along,
+        &barriers(Vec::new(alloc)),
+    )?;
     let all = [
         node(1, 1, 0),
         node(1, 2, 0),
@@ -269,7 +300,13 @@ fn flow_leads_downstream_through_the_pump(rt: HostRuntime) -> Result<(), Fail> {
 fn flow_comes_from_upstream(rt: HostRuntime) -> Result<(), Fail> {
     let alloc = rt.alloc();
     let over = pumped(alloc, false)?;
-    let reached = walked(alloc, &over, node(2, 0, 0), Mode::Against, Vec::new(alloc))?;
+    let reached = walked(
+        alloc,
+        &over,
+        node(2, 0, 0),
+        Mode::Against,
+        &barriers(Vec::new(alloc)),
+    )?;
     let all = [
         node(1, 1, 0),
         node(1, 2, 0),
@@ -287,7 +324,7 @@ fn a_stop_ends_the_walk(rt: HostRuntime) -> Result<(), Fail> {
     let alloc = rt.alloc();
     let over = pumped(alloc, false)?;
     let stops = vec![in alloc; node(1, 2, 0).port]?;
-    let reached = walked(alloc, &over, node(2, 1, 10), Mode::Any, stops)?;
+    let reached = walked(alloc, &over, node(2, 1, 10), Mode::Any, &barriers(stops))?;
     let all = [node(1, 2, 0), node(2, 0, 0), node(2, 1, 10)];
     assert_eq!(rt; reached.nodes.as_slice(), all.as_slice());
     assert_eq!(rt; over.asked.get(), 2);
@@ -298,7 +335,13 @@ fn a_stop_ends_the_walk(rt: HostRuntime) -> Result<(), Fail> {
 fn dirt_is_reached_and_named(rt: HostRuntime) -> Result<(), Fail> {
     let alloc = rt.alloc();
     let over = pumped(alloc, true)?;
-    let reached = walked(alloc, &over, node(3, 1, -10), Mode::Any, Vec::new(alloc))?;
+    let reached = walked(
+        alloc,
+        &over,
+        node(3, 1, -10),
+        Mode::Any,
+        &barriers(Vec::new(alloc)),
+    )?;
     assert_eq!(rt; reached.nodes.as_slice().len(), 6);
     assert_eq!(rt;
         reached.dirt,
@@ -308,5 +351,73 @@ fn dirt_is_reached_and_named(rt: HostRuntime) -> Result<(), Fail> {
         })
     );
     assert_eq!(rt; over.asked.get(), 5);
+    Ok(())
+}
+
+#[test]
+fn dirt_stops_a_consistent_walk_alone(rt: HostRuntime) -> Result<(), Fail> {
+    let alloc = rt.alloc();
+    let over = pumped(alloc, true)?;
+    for (consistent, nodes, asked) in [(true, 1, 0), (false, 6, 6)] {
+        let mut within = barriers(Vec::new(alloc));
+        within.consistent = consistent;
+        over.asked.set(0);
+        let reached = walked(alloc, &over, node(2, 1, 10), Mode::Any, &within)?;
+        assert_eq!(rt; reached.nodes.as_slice().len(), nodes);
+        assert_eq!(rt;
+            reached.dirt,
+            Some(Dirt {
+                area: 7,
+                port: node(2, 1, 10).port
+            })
+        );
+        assert_eq!(rt; over.asked.get(), asked);
+    }
+    Ok(())
+}
+
+#[test]
+fn a_condition_ends_the_walk(rt: HostRuntime) -> Result<(), Fail> {
+    let alloc = rt.alloc();
+    let over = pumped(alloc, false)?;
+    let mut of_request = barriers(Vec::new(alloc));
+    of_request.request = Some(is_outlet(alloc)?);
+    let mut of_tier = barriers(Vec::new(alloc));
+    of_tier.of_tier = Some(is_outlet(alloc)?);
+    let all = [node(1, 1, 0), node(1, 2, 0), node(3, 0, 0), node(3, 1, -10)];
+    for within in [&of_request, &of_tier] {
+        over.asked.set(0);
+        let reached = walked(alloc, &over, node(3, 1, -10), Mode::Any, within)?;
+        assert_eq!(rt; reached.nodes.as_slice(), all.as_slice());
+        assert_eq!(rt; over.asked.get(), 4);
+    }
+    Ok(())
+}
+
+/// The two terminals of a device at two points, and nothing else.
+fn apart(alloc: Global) -> Result<Listed, AllocError> {
+    let (west, east) = (node(1, 1, 0), node(1, 2, 10));
+    let from_west = far_vertex(alloc, west, tie(path(), east, true, true))?;
+    let from_east = far_vertex(alloc, east, tie(path(), west, true, true))?;
+    Ok(Listed {
+        stars: vec![in alloc; (west.at, from_west), (east.at, from_east)]?,
+        with_dirt: false,
+        asked: Cell::new(0),
+    })
+}
+
+#[test]
+fn a_path_to_another_point_asks_there_in_a_tier_alone(rt: HostRuntime) -> Result<(), Fail> {
+    let alloc = rt.alloc();
+    let over = apart(alloc)?;
+    let all = [node(1, 1, 0), node(1, 2, 10)];
+    for (tier, asked) in [(None, 2), (Some(0), 4)] {
+        let mut within = barriers(Vec::new(alloc));
+        within.tier = tier;
+        over.asked.set(0);
+        let reached = walked(alloc, &over, node(1, 1, 0), Mode::Any, &within)?;
+        assert_eq!(rt; reached.nodes.as_slice(), all.as_slice());
+        assert_eq!(rt; over.asked.get(), asked);
+    }
     Ok(())
 }
