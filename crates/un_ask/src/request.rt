@@ -1,0 +1,28 @@
+use crate::edits::Edits;
+use crate::query::Query;
+use crate::rule::NamedRule;
+use un_defs::Edit;
+use un_geom::Rect;
+use un_schema::Name;
+
+/// What a line of a script or a request over HTTP asks.
+#[derive(Drop)]
+pub enum Request {
+    Command(Command),
+    Query(Query),
+}
+
+/// What may change the state.
+#[derive(Drop)]
+pub enum Command {
+    /// One edit. An edit that adds a rule comes as `Rule`, with its kinds by name.
+    Edit(Edit),
+    /// Several edits that are made all or not at all.
+    Batch(Edits),
+    /// Adds a rule to those in force.
+    Rule { rule: NamedRule },
+    /// Brings the topology up to date where dirty areas meet the extent.
+    Validate { extent: Rect },
+    /// Walks a subnetwork anew and stores what it found.
+    Update { tier: Name, subnet: Name },
+}

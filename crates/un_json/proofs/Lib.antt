@@ -1,0 +1,7 @@
+pub mod Items
+pub mod Others
+pub mod Attributes
+pub mod Inclusions
+pub mod Conditions
+pub mod RuleForms
+pub mod Texts

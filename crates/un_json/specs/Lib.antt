@@ -1,0 +1,4 @@
+pub mod Forms
+pub mod Rows
+pub mod Table
+pub mod Requests

@@ -1,0 +1,184 @@
+-- The members of each request, by its word, in the order in which they are looked at: `need` for a member that must be there, with its
+-- name and its form, and `may` for one that may be absent, with the value that it has then.
+use Rattle.std.specs.Prelude.{ℕ, Bool, [], ◌∷◌, List, true, false, Option, None, Some, option_map, option_and_then, Result, Ok, Err}
+use Rattle.std.specs.Result.{result_ok}
+use Rattle.serde_json.specs.Data.{Data}
+use Rattle.serde_json.specs.Find.{get, as_str, as_bool}
+use Rattle.un_conds.specs.Conditions.{Condition}
+use Rattle.un_schema.specs.declared.place.Place.{Place}
+use Rattle.un_schema.specs.declared.place.Place.TheVariants as place
+use Rattle.un_schema.specs.Places.{place_text}
+use Rattle.un_defs.specs.declared.row.Flow.TheVariants.{Both}
+use Rattle.un_defs.specs.declared.port.Port.{Port}
+use Rattle.un_defs.specs.declared.edit.Edit.{Edit}
+use Rattle.un_defs.specs.declared.edit.Edit.TheVariants as edit
+use Rattle.un_ask.specs.declared.word.EditWord.{EditWord}
+use Rattle.un_ask.specs.declared.word.EditWord.TheVariants as word
+use Rattle.un_ask.specs.declared.request.Command.{Command}
+use Rattle.un_ask.specs.declared.request.Command.TheVariants as command
+use Rattle.un_ask.specs.declared.query.Query.{Query}
+use Rattle.un_ask.specs.declared.query.Asked.{Asked}
+use Rattle.un_ask.specs.declared.query.Asked.TheVariants as asked
+use Rattle.un_ask.specs.declared.trace.TraceKind.{TraceKind}
+use Rattle.un_ask.specs.declared.trace.TraceKind.TheVariants as trace
+use Rattle.un_ask.specs.declared.trace.Include.{Include}
+use Rattle.un_ask.specs.declared.trace.NamedFunc.{NamedFunc}
+use Rattle.un_ask.specs.declared.trace.TraceAsk.{TraceAsk}
+use Rattle.un_ask.specs.Batches.{is_batch}
+use Rattle.un_ask.specs.Words.{edit_named}
+use Rattle.un_json.specs.declared.words.CommandWord.{CommandWord}
+use Rattle.un_json.specs.declared.words.CommandWord.TheVariants as does
+use Rattle.un_json.specs.declared.words.QueryWord.{QueryWord}
+use Rattle.un_json.specs.declared.words.QueryWord.TheVariants as asks
+use Rattle.un_json.specs.Rows.{Row, Column, makes, ◌&◌, need, may, need_when, may_when, needed, answers, mapped, and_then}
+use Rattle.un_json.specs.Forms.{kept, id_of, base_of, name_of, points_of, attrs_of, flow_of, ends_of, note_of, port_of, terminal_of, list_of, extent_of, rule_of, starts_of, stops_of, kind_of, some_condition_of, barriers_of, include_of, functions_of, nothing}
+
+-- ---- edits
+
+abbrev pub edit_row : EditWord → Row Edit
+edit_row word.Insert =
+    makes edit.Insert & need place.Kind name_of & need place.Points points_of
+    & may place.Attrs attrs_of [] & may place.Flow flow_of Both & may place.Ends ends_of (0 ∷ 0 ∷ []) & may place.Note note_of []
+edit_row word.Reshape = makes edit.Reshape & need place.Id id_of & need place.Base base_of & need place.Points points_of
+edit_row word.Attrs = makes edit.Attrs & need place.Id id_of & need place.Base base_of & need place.Attrs attrs_of
+edit_row word.Kind = makes edit.Kind & need place.Id id_of & need place.Base base_of & need place.Kind name_of
+edit_row word.Path = makes edit.Path & need place.Id id_of & need place.Base base_of & need place.Path name_of
+edit_row word.Flow = makes edit.Flow & need place.Id id_of & need place.Base base_of & need place.Flow flow_of
+edit_row word.Ends = makes edit.Ends & need place.Id id_of & need place.Base base_of & need place.Ends ends_of
+edit_row word.Note = makes edit.Note & need place.Id id_of & need place.Base base_of & need place.Note note_of
+edit_row word.Delete = makes edit.Delete & need place.Id id_of & need place.Base base_of
+edit_row word.Connect = makes edit.Connect & need place.From port_of & need place.To port_of
+edit_row word.Contain = makes edit.Contain & need place.Container id_of & need place.Content id_of
+edit_row word.Attach = makes edit.Attach & need place.Structure id_of & need place.Content id_of
+edit_row word.Detach = makes edit.Detach & need place.Assoc id_of
+edit_row word.Controller =
+    makes edit.Controller & need place.Id id_of & need place.Terminal terminal_of & need place.Tier name_of & need place.Subnet name_of
+edit_row word.Uncontroller = makes edit.Uncontroller & need place.Id id_of & need place.Terminal terminal_of
+
+abbrev pub edit_answer : EditWord → Data → Result Edit Place
+edit_answer w d = answers place.Do (edit_row w) d
+
+-- ---- batches
+
+-- an edit as an element of a batch
+abbrev pub edit_of : Data → Option Edit
+edit_of d =
+    option_and_then (λ w. result_ok (edit_answer w d)) (option_and_then edit_named (option_and_then as_str (get (place_text place.Do) d)))
+
+-- 1 to 256 edits
+abbrev pub edits_of : Data → Option (List Edit)
+edits_of d = kept is_batch (list_of edit_of d)
+
+-- ---- commands
+
+abbrev pub batch : Row Command
+batch = makes command.Batch & need place.Edits edits_of
+
+abbrev pub rule : Row Command
+rule = makes command.Rule & need place.Rule rule_of
+
+abbrev pub validate : Row Command
+validate = makes command.Validate & need place.Extent extent_of
+
+abbrev pub update : Row Command
+update = makes command.Update & need place.Tier name_of & need place.Subnet name_of
+
+abbrev pub command_answer : CommandWord → Data → Result Command Place
+command_answer (does.Edit w) d = mapped command.Edit (edit_answer w d)
+command_answer does.Batch d = answers place.Do batch d
+command_answer does.Rule d = answers place.Do rule d
+command_answer does.Validate d = answers place.Do validate d
+command_answer does.Update d = answers place.Do update d
+
+-- ---- queries
+
+-- a query; `seen` stands last in each row
+abbrev pub query : Asked → ℕ → Query
+query what seen = record { seen = seen; what = what }
+
+abbrev pub version : Row Query
+version = makes (query asked.Version) & may place.Seen base_of 0
+
+abbrev pub feature : Row Query
+feature = makes (λ id. query (asked.Feature id)) & need place.Id id_of & may place.Seen base_of 0
+
+abbrev pub dirty : Row Query
+dirty = makes (λ extent. query (asked.Dirty extent)) & need place.Extent extent_of & may place.Seen base_of 0
+
+abbrev pub errors : Row Query
+errors = makes (λ extent. query (asked.Errors extent)) & need place.Extent extent_of & may place.Seen base_of 0
+
+abbrev pub subnet : Row Query
+subnet = makes (λ tier name. query (asked.Subnet tier name)) & need place.Tier name_of & need place.Subnet name_of & may place.Seen base_of 0
+
+-- ---- traces
+
+abbrev pub takes_starts : TraceKind → Bool
+takes_starts trace.Subnetwork = false
+takes_starts _ = true
+
+abbrev pub takes_tier : TraceKind → Bool
+takes_tier trace.Connected = false
+takes_tier trace.Loops = false
+takes_tier _ = true
+
+abbrev pub takes_subnet : TraceKind → Bool
+takes_subnet trace.Subnetwork = true
+takes_subnet _ = false
+
+abbrev pub takes_isolators : TraceKind → Bool
+takes_isolators trace.Isolation = true
+takes_isolators _ = false
+
+-- loops and isolation are always consistent
+abbrev pub takes_consistent : TraceKind → Bool
+takes_consistent trace.Loops = false
+takes_consistent trace.Isolation = false
+takes_consistent _ = true
+
+-- the traces with a result
+abbrev pub takes_include : TraceKind → Bool
+takes_include trace.Controllers = false
+takes_include trace.Loops = false
+takes_include trace.Isolation = false
+takes_include _ = true
+
+abbrev pub some_name_of : Data → Option (Option (List ℕ))
+some_name_of d = option_map Some (name_of d)
+
+abbrev pub traced : TraceKind → List Port → Option (List ℕ) → Option (List ℕ) → Option (Condition (List ℕ)) → Option (Condition (List ℕ)) → List Port → Bool → Include → List NamedFunc → ℕ → Query
+traced kind starts tier subnet isolators barriers stops consistent include functions seen = query (asked.Trace (record {
+  kind = kind;
+  starts = starts;
+  tier = tier;
+  subnet = subnet;
+  isolators = isolators;
+  barriers = barriers;
+  stops = stops;
+  consistent = consistent;
+  include = include;
+  functions = functions;
+})) seen
+
+-- the members by the type, which is the first of them
+abbrev pub trace_row : TraceKind → Row Query
+trace_row kind =
+    makes traced & need place.Type kind_of
+    & need_when (takes_starts kind) place.Starts starts_of []
+    & need_when (takes_tier kind) place.Tier some_name_of None
+    & need_when (takes_subnet kind) place.Subnet some_name_of None
+    & need_when (takes_isolators kind) place.Isolators some_condition_of None
+    & may place.Barriers barriers_of None
+    & may place.Stops stops_of []
+    & may_when (takes_consistent kind) place.Consistent as_bool true
+    & may_when (takes_include kind) place.Include include_of nothing
+    & may_when (takes_include kind) place.Functions functions_of []
+    & may place.Seen base_of 0
+
+abbrev pub query_answer : QueryWord → Data → Result Query Place
+query_answer asks.Version d = answers place.Ask version d
+query_answer asks.Feature d = answers place.Ask feature d
+query_answer asks.Dirty d = answers place.Ask dirty d
+query_answer asks.Errors d = answers place.Ask errors d
+query_answer asks.Subnet d = answers place.Ask subnet d
+query_answer asks.Trace d = and_then (λ kind. answers place.Ask (trace_row kind) d) (needed place.Type kind_of d)

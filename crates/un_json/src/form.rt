@@ -1,0 +1,147 @@
+ghost use Rattle.std.specs.Prelude.{◌≡◌, Ok, IfOk, IfErr, OnOk, false};
+ghost use Rattle.serde_json.specs.View.{view};
+ghost use Rattle.un_json.specs.Rows.{needed, optional, needed_when, optional_when, only, is_named, is_other, some_other, Blames};
+ghost use Rattle.serde_json.specs.View.{members_view};
+
+use crate::fault::ReadFault;
+use serde_json::{Map, Value};
+use std::alloc::{AllocError, Global};
+use un_schema::Place;
+
+/// A form that a member's value may have.
+pub(crate) trait Form {
+    ghost use Rattle.std.specs.Prelude.{Option};
+    ghost use Rattle.serde_json.specs.Data.{Data};
+
+    type Out: Drop;
+
+    ghost form: { Data → Option Self.Out };
+
+    fn read(alloc: Global, value: &Value) -> Result<Option<Self::Out>, AllocError>
+        ensures { IfOk result (λ out. out ≡ form (view value.now)) };
+}
+
+/// The value of a member that must be there.
+#[tactic(auto, unfolding(crate::specs::Rows::needed))]
+pub(crate) fn need<F: Form>(
+    alloc: Global,
+    object: &Value,
+    place: Place,
+) -> Result<F::Out, ReadFault>
+    ensures ok { IfOk result (λ out. needed place F.form (view object.now) ≡ Ok out) }
+    ensures err { IfErr result (λ e. Blames e (needed place F.form (view object.now))) }
+{
+    let Some(value) = object.get(place.text()) else {
+        return Err(ReadFault::BadRequest { place });
+    };
+    match F::read(alloc, value)? {
+        Some(out) => Ok(out),
+        None => Err(ReadFault::BadRequest { place }),
+    }
+}
+
+/// The value of a member that may be absent, and is the default then.
+#[tactic(auto, unfolding(crate::specs::Rows::optional))]
+pub(crate) fn may<F: Form>(
+    alloc: Global,
+    object: &Value,
+    place: Place,
+    default: F::Out,
+) -> Result<F::Out, ReadFault>
+    ensures ok { IfOk result (λ out. optional place F.form default (view object.now) ≡ Ok out) }
+    ensures err { IfErr result (λ e. Blames e (optional place F.form default (view object.now))) }
+{
+    let Some(value) = object.get(place.text()) else {
+        return Ok(default);
+    };
+    match F::read(alloc, value)? {
+        Some(out) => Ok(out),
+        None => Err(ReadFault::BadRequest { place }),
+    }
+}
+
+/// The value of a member that must be there where it is taken; where it is not, the other value.
+#[tactic(auto, unfolding(crate::specs::Rows::needed_when))]
+pub(crate) fn need_when<F: Form>(
+    taken: bool,
+    alloc: Global,
+    object: &Value,
+    place: Place,
+    other: F::Out,
+) -> Result<F::Out, ReadFault>
+    ensures ok { IfOk result
+        (λ out. needed_when taken place F.form other (view object.now) ≡ Ok out) }
+    ensures err { IfErr result
+        (λ e. Blames e (needed_when taken place F.form other (view object.now))) }
+{
+    if taken {
+        need::<F>(alloc, object, place)
+    } else {
+        Ok(other)
+    }
+}
+
+/// The value of a member that may be absent, where it is taken; the default in every other case.
+#[tactic(auto, unfolding(crate::specs::Rows::optional_when))]
+pub(crate) fn may_when<F: Form>(
+    taken: bool,
+    alloc: Global,
+    object: &Value,
+    place: Place,
+    default: F::Out,
+) -> Result<F::Out, ReadFault>
+    ensures ok { IfOk result
+        (λ out. optional_when taken place F.form default (view object.now) ≡ Ok out) }
+    ensures err { IfErr result
+        (λ e. Blames e (optional_when taken place F.form default (view object.now))) }
+{
+    if taken {
+        may::<F>(alloc, object, place, default)
+    } else {
+        Ok(default)
+    }
+}
+
+/// Refuses an object that has a member with another name than these.
+#[tactic(auto, unfolding(crate::specs::Rows::only))]
+pub(crate) fn only(object: &Value, places: &[Place]) -> Result<(), ReadFault>
+    ensures ok { OnOk result (only places.now (view object.now) ≡ Ok tt) }
+    ensures err { IfErr result (λ e. Blames e (only places.now (view object.now))) }
+{
+    match object.as_object() {
+        Some(members) if some_other(members, places) => {
+            Err(ReadFault::BadRequest {
+                place: Place::Extra,
+            })
+        }
+        _ => Ok(()),
+    }
+}
+
+/// Whether some member has another name than these.
+#[tactic(auto, using(crate::proofs::Others::looked_on, crate::proofs::Others::found, crate::proofs::Others::none_found))]
+fn some_other(members: &Map<String, Value>, places: &[Place]) -> bool
+    ensures { result ≡ some_other places.now (members_view members.now.entries) }
+{
+    for (name, _) in members.iter() {
+        if is_other(name.as_str(), places) {
+            return true;
+        }
+    }
+    false
+}
+
+/// Whether the name is none of these.
+fn is_other(name: &str, places: &[Place]) -> bool
+    ensures { result ≡ is_other places.now name.now }
+{
+    !places.iter().any(|place| is_named(place, name))
+}
+
+/// Whether the member of the place has this name.
+#[tactic(auto, unfolding(crate::specs::Rows::is_named))]
+fn is_named(place: &Place, name: &str) -> bool
+    ensures { result ≡ is_named name.now place.now }
+{
+    place.text() == name
+}

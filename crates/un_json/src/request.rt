@@ -1,0 +1,155 @@
+//! Requests, and how they are read from texts of JSON.
+//!
+//! A text is read as a JSON value first. The value is to be an object with one of the members `do` and `ask`, whose word says which
+//! other members it has. The table of the definitions gives them by word, each with its form: they are looked at in the table's
+//! order, and the first that is missing or has another form is the place of the refusal. So one function for each word reads its
+//! members in that order, and gives up at the first that is bad; what the table does not have is looked for behind them.
+//! The value is walked once for each member that is looked up, and what is kept of it is copied.
+ghost use Rattle.std.specs.Prelude.{◌≡◌, ◌≢◌, Ok, Err, Some, None, IfOk, IfErr};
+ghost use Rattle.serde_json.specs.View.{view};
+ghost use Rattle.un_json.specs.Rows.{Blames};
+ghost use Rattle.un_json.specs.Requests.{whole_command_named, command_named, query_named, command_word_of, query_word_of, word_of, answer_to, request_of, json_of, ask};
+
+use crate::command::read_command;
+use crate::fault::ReadFault;
+use crate::query::read_query;
+use crate::words::{CommandWord, QueryWord, Word};
+use serde_json::Value;
+use std::alloc::Global;
+use un_ask::{EditWord, Place, Request};
+
+/// Reads the request that a text is. It is `NotJson` exactly where the bytes are no JSON value in UTF-8, and `BadRequest` with the
+/// first place that is bad. Want of memory may stand in place of any answer.
+pub fn read_request(alloc: Global, text: &[u8]) -> Result<Request, ReadFault>
+    ensures request { IfOk result (λ request. ask text.now ≡ Ok request) }
+    ensures fault { IfErr result (λ e. e ≢ ReadFault.Memory → ask text.now ≡ Err e) }
+{
+    let value = read_json(alloc, text)?;
+    read_value(alloc, &value)
+}
+
+// The JSON value that the bytes are.
+fn read_json(alloc: Global, text: &[u8]) -> Result<Value, ReadFault>
+    ensures ok { IfOk result (λ value. json_of text.now ≡ Some (view value)) }
+    ensures err { IfErr result (λ e. e ≢ ReadFault.Memory → (json_of text.now ≡ None) × (e ≡ ReadFault.NotJson)) }
+{
+    match Value::from_slice(alloc, text) {
+        Ok(value) => Ok(value),
+        Err(error) if error.is_memory() => Err(ReadFault::Memory),
+        Err(_) => Err(ReadFault::NotJson),
+    }
+}
+
+// The request that a value is.
+fn read_value(alloc: Global, value: &Value) -> Result<Request, ReadFault>
+    ensures ok { IfOk result (λ request. request_of (view value.now) ≡ Ok request) }
+    ensures err { IfErr result (λ e. Blames e (request_of (view value.now))) }
+{
+    if !value.is_object() {
+        return Err(ReadFault::BadRequest {
+            place: Place::Whole,
+        });
+    }
+    let word = word_of(value)?;
+    answer(alloc, word, value)
+}
+
+fn answer(alloc: Global, word: Word, object: &Value) -> Result<Request, ReadFault>
+    ensures ok { IfOk result (λ request. answer_to word (view object.now) ≡ Ok request) }
+    ensures err { IfErr result (λ e. Blames e (answer_to word (view object.now))) }
+{
+    match word {
+        Word::Do(word) => {
+            let command = read_command(alloc, word, object)?;
+            Ok(Request::Command(command))
+        }
+        Word::Ask(word) => {
+            let query = read_query(alloc, word, object)?;
+            Ok(Request::Query(query))
+        }
+    }
+}
+
+// The word of an object.
+fn word_of(object: &Value) -> Result<Word, ReadFault>
+    ensures ok { IfOk result (λ word. word_of (view object.now) ≡ Ok word) }
+    ensures err { IfErr result (λ e. Blames e (word_of (view object.now))) }
+{
+    match object.get(Place::Do.text()) {
+        Some(value) => {
+            if object.get(Place::Ask.text()).is_some() {
+                return Err(ReadFault::BadRequest { place: Place::Do });
+            }
+            command_word(value)
+        }
+        None => match object.get(Place::Ask.text()) {
+            Some(value) => query_word(value),
+            None => Err(ReadFault::BadRequest { place: Place::Do }),
+        },
+    }
+}
+
+fn command_word(value: &Value) -> Result<Word, ReadFault>
+    ensures ok { IfOk result (λ word. command_word_of (view value.now) ≡ Ok word) }
+    ensures err { IfErr result (λ e. Blames e (command_word_of (view value.now))) }
+{
+    match value.as_str().and_then(command_named) {
+        Some(word) => Ok(Word::Do(word)),
+        None => Err(ReadFault::BadRequest { place: Place::Do }),
+    }
+}
+
+fn query_word(value: &Value) -> Result<Word, ReadFault>
+    ensures ok { IfOk result (λ word. query_word_of (view value.now) ≡ Ok word) }
+    ensures err { IfErr result (λ e. Blames e (query_word_of (view value.now))) }
+{
+    match value.as_str().and_then(query_named) {
+        Some(word) => Ok(Word::Ask(word)),
+        None => Err(ReadFault::BadRequest { place: Place::Ask }),
+    }
+}
+
+fn command_named(text: &str) -> Option<CommandWord>
+    ensures { result ≡ command_named text.now }
+{
+    match EditWord::named(text) {
+        Some(word) => Some(CommandWord::Edit(word)),
+        None => whole_command_named(text),
+    }
+}
+
+fn whole_command_named(text: &str) -> Option<CommandWord>
+    ensures { result ≡ whole_command_named text.now }
+{
+    if text == "batch" {
+        Some(CommandWord::Batch)
+    } else if text == "rule" {
+        Some(CommandWord::Rule)
+    } else if text == "validate" {
+        Some(CommandWord::Validate)
+    } else if text == "update" {
+        Some(CommandWord::Update)
+    } else {
+        None
+    }
+}
+
+fn query_named(text: &str) -> Option<QueryWord>
+    ensures { result ≡ query_named text.now }
+{
+    if text == "version" {
+        Some(QueryWord::Version)
+    } else if text == "feature" {
+        Some(QueryWord::Feature)
+    } else if text == "dirty" {
+        Some(QueryWord::Dirty)
+    } else if text == "errors" {
+        Some(QueryWord::Errors)
+    } else if text == "subnet" {
+        Some(QueryWord::Subnet)
+    } else if text == "trace" {
+        Some(QueryWord::Trace)
+    } else {
+        None
+    }
+}
