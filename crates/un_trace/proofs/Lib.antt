@@ -1,0 +1,11 @@
+pub mod Runs
+pub mod Rise
+pub mod Told
+pub mod Turn
+pub mod Firsts
+pub mod Sums
+pub mod Gathered
+pub mod Read
+pub mod Answered
+pub mod Whole
+pub mod Controlling

@@ -1,0 +1,5 @@
+pub mod Seen
+pub mod Included
+pub mod Functions
+pub mod Controlled
+pub mod Told

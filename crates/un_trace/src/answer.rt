@@ -1,0 +1,217 @@
+//! The trace itself.
+
+ghost use Rattle.std.specs.Prelude.{◌≡◌, ◌≤◌, ◌+◌, ◌*◌, ℕ, List, length, flat_map, None, IsSome, IfOk, OnOk, if◌then◌else◌};
+ghost use Rattle.std.specs.Ordering.{nat_cmp};
+ghost use Rattle.std.specs.List.Sorted.{IsStrictlySortedBy};
+ghost use Rattle.un_defs.specs.declared.port.Node.{Node};
+ghost use Rattle.un_defs.specs.Orders.{node_cmp, rising};
+ghost use Rattle.un_defs.specs.Reach.{IsReach, leads};
+ghost use Rattle.un_walk.specs.Ticks.{IsLookedUpOnce};
+ghost use Rattle.un_trace.specs.Seen.{spots_of};
+ghost use Rattle.un_trace.specs.Included.{ids_of};
+ghost use Rattle.un_trace.specs.Told.{MayTell, IsAnswer, mode_of, where_asked, result_of, told_nodes, tells_controllers, controllers_reply, result_reply, told_clean, refused_by};
+
+use crate::controllers::controllers_of;
+use crate::features::{Features, features_of};
+use crate::functions::totals;
+use crate::included::{Inclusion, included};
+use crate::nodes::{Seen, seen_nodes};
+use std::alloc::{AllocError, Global};
+use un_ask::{Parts, Refusal, Reply, ResultReply, TraceKind, TypedAsk};
+use un_defs::{Barriers, Dirt, Ground, Ids, Mode, Node};
+use un_steps::Steps;
+use un_walk::reach;
+
+fn mode_of(kind: TraceKind) -> Mode
+    ensures { result ≡ mode_of kind }
+{
+    match kind {
+        TraceKind::Upstream => Mode::Against,
+        TraceKind::Downstream => Mode::Along,
+        TraceKind::Connected
+        | TraceKind::Subnetwork
+        | TraceKind::Controllers
+        | TraceKind::Loops
+        | TraceKind::Isolation => Mode::Any,
+    }
+}
+
+/// In consistent mode the dirt that a walk met matters, and else none does.
+fn dirt_that_matters(barriers: &Barriers, dirt: Option<Dirt>) -> Option<Dirt>
+    ensures { result ≡ (if barriers.now.consistent then dirt else None) }
+{
+    if barriers.consistent { dirt } else { None }
+}
+
+fn refused_by(dirt: Dirt) -> Reply
+    ensures { result ≡ refused_by dirt }
+{
+    Reply::Refused {
+        refusal: Refusal::DirtyGround {
+            area: dirt.area,
+            feature: dirt.port.feature,
+            port: dirt.port.number,
+        },
+        edit: None,
+        version: 0,
+    }
+}
+
+/// The ids that the entries give where they are asked for, and else none.
+fn where_asked(
+    alloc: Global,
+    asked: bool,
+    seen: &[Seen],
+    inclusion: Inclusion,
+) -> Result<Ids, AllocError>
+    ensures { IfOk result (λ ids. ids
+        ≡ where_asked asked (rising nat_cmp (flat_map (ids_of inclusion) (spots_of seen.now)))) }
+{
+    if asked {
+        included(alloc, seen, inclusion)
+    } else {
+        Ok(Ids::new(Vec::new(alloc)))
+    }
+}
+
+/// The result of a trace that reached these nodes. It looks up one star for each of them.
+fn result_of<G: Ground, L>(
+    alloc: Global,
+    over: &G,
+    ask: &TypedAsk,
+    reached: &[Node],
+    steps: &mut Steps<L>,
+) -> Result<ResultReply, AllocError>
+    requires { IsStrictlySortedBy node_cmp reached.now }
+    ensures told { IfOk result (λ r. r ≡ result_of (G.stars_and_areas over.now) ask.now
+        (told_nodes (G.stars_and_areas over.now) ask.now reached.now)) }
+    ensures ticks { OnOk result (steps.new ≡ steps.old + length reached.now) }
+{
+    let nodes = seen_nodes(
+        alloc,
+        over,
+        reached,
+        &ask.barriers,
+        ask.include.barriers,
+        steps,
+    )?;
+    let seen = nodes.as_slice();
+    let features = features_of(alloc, seen)?;
+    let functions = totals(
+        alloc,
+        features.firsts.as_slice(),
+        features.parts.len(),
+        ask.functions.as_slice(),
+    )?;
+    let include = ask.include;
+    let containers = where_asked(alloc, include.containers, seen, Inclusion::Containers)?;
+    let content = where_asked(alloc, include.content, seen, Inclusion::Content)?;
+    let structures = where_asked(alloc, include.structures, seen, Inclusion::Structures)?;
+    let Features { parts, firsts: _ } = features;
+    Ok(ResultReply {
+        containers,
+        content,
+        features: Parts::new(parts),
+        functions,
+        kind: ask.kind,
+        structures,
+    })
+}
+
+fn tells_controllers(kind: TraceKind) -> bool
+    ensures { result ≡ tells_controllers kind }
+{
+    matches!(kind, TraceKind::Controllers)
+}
+
+fn controllers_reply<G: Ground, L>(
+    alloc: Global,
+    over: &G,
+    ask: &TypedAsk,
+    reached: &[Node],
+    steps: &mut Steps<L>,
+) -> Result<Reply, AllocError>
+    requires { IsSome ask.now.barriers.tier }
+    ensures told { IfOk result (λ r. r ≡ controllers_reply (G.stars_and_areas over.now) ask.now reached.now) }
+    ensures ticks { OnOk result (steps.new ≡ steps.old + length reached.now) }
+{
+    let Some(tier) = ask.barriers.tier else {
+        unreachable!()
+    };
+    let controllers = controllers_of(alloc, over, tier, reached, &ask.barriers, steps)?;
+    Ok(Reply::Controllers {
+        controllers,
+        version: 0,
+    })
+}
+
+fn result_reply<G: Ground, L>(
+    alloc: Global,
+    over: &G,
+    ask: &TypedAsk,
+    reached: &[Node],
+    steps: &mut Steps<L>,
+) -> Result<Reply, AllocError>
+    requires { IsStrictlySortedBy node_cmp reached.now }
+    ensures told { IfOk result (λ r. r ≡ result_reply (G.stars_and_areas over.now) ask.now reached.now) }
+    ensures ticks { OnOk result (steps.new ≡ steps.old + length reached.now) }
+{
+    let result = result_of(alloc, over, ask, reached, steps)?;
+    Ok(Reply::Traced { result, version: 0 })
+}
+
+/// The answer of a trace that reached these nodes, where no dirt matters.
+fn told_clean<G: Ground, L>(
+    alloc: Global,
+    over: &G,
+    ask: &TypedAsk,
+    reached: &[Node],
+    steps: &mut Steps<L>,
+) -> Result<Reply, AllocError>
+    requires kind { MayTell ask.now.kind ask.now.barriers.tier }
+    requires sorted { IsStrictlySortedBy node_cmp reached.now }
+    ensures told { IfOk result (λ r. r ≡ told_clean (G.stars_and_areas over.now) ask.now reached.now) }
+    ensures ticks { OnOk result (steps.new ≡ steps.old + length reached.now) }
+{
+    if tells_controllers(ask.kind) {
+        controllers_reply(alloc, over, ask, reached, steps)
+    } else {
+        result_reply(alloc, over, ask, reached, steps)
+    }
+}
+
+/// Answers a trace of the kinds connected, subnetwork, controllers, upstream and downstream over the ground. For controllers the ask has a
+/// tier.
+///
+/// The version in the reply is 0: the caller puts in its own. `steps` counts the stars that are looked up. It answers an error only for
+/// want of memory; the count may then have risen.
+pub fn trace<G: Ground, L>(
+    alloc: Global,
+    over: &G,
+    ask: &TypedAsk,
+    steps: &mut Steps<L>,
+) -> Result<Reply, AllocError>
+    requires { MayTell ask.now.kind ask.now.barriers.tier }
+    // The reply is told of exactly the nodes in which a walk from a start ends: a refusal where dirt matters, and else what was asked for.
+    ensures answer { IfOk result (IsAnswer (G.stars_and_areas over.now) ask.now) }
+
+    // For each node that is reached, one star is looked up for the walk and one for the answer.
+    ensures ticks { (reached : List Node)
+        → IsReach (leads (G.stars_and_areas over.now) ask.now.barriers (mode_of ask.now.kind)) ask.now.starts reached
+        → IsLookedUpOnce (G.stars_and_areas over.now) ask.now.barriers
+        → OnOk result (steps.new ≤ steps.old + 2 * length reached) }
+{
+    let mode = mode_of(ask.kind);
+    let reached = reach(
+        alloc,
+        over,
+        ask.starts.as_slice(),
+        mode,
+        &ask.barriers,
+        steps,
+    )?;
+    match dirt_that_matters(&ask.barriers, reached.dirt) {
+        Some(dirt) => Ok(refused_by(dirt)),
+        None => told_clean(alloc, over, ask, reached.nodes.as_slice(), steps),
+    }
+}
