@@ -1,0 +1,100 @@
+-- What might happen to a state leaves a state.
+use Rattle.std.proofs.Common.{◌≡◌, ◌≢◌, ℕ, zero, suc, ◌+◌, ◌<◌, ◌||◌, Bool, true, false, not, List, [], ◌∷◌, ◌++◌, length, get_or, filter, refl, sym, ap, ◌∙◌, subst, All, IsFalse, inl, inr, arith}
+use Rattle.std.specs.List.{list_any, enumerate_from}
+use Rattle.std.proofs.lemmas.List.Folds.{list_any-append}
+use Rattle.std.proofs.lemmas.List.Elements.{All-filter}
+use Rattle.std.proofs.lemmas.List.Kept.{AllPairs-filter}
+use Rattle.un_geom.specs.declared.point.Point.{Point}
+use Rattle.un_geom.specs.Rectangle.{Rectangle}
+use Rattle.un_geom.specs.Places.{covers, meets}
+use Rattle.un_defs.specs.declared.edit.Edit.{Edit}
+use Rattle.un_defs.specs.declared.star.Star.{Star}
+use Rattle.un_defs.specs.Star.{star, empty_star}
+use Rattle.un_defs.specs.Change.{Next, changed, after}
+use Rattle.un_defs.specs.Features.{Features}
+use Rattle.un_defs.specs.Stain.{stain}
+use Rattle.un_defs.specs.Laws.{AreNew}
+use Rattle.un_defs.proofs.Rising.{Among}
+use Rattle.un_defs.proofs.Unique.{from_all}
+use Rattle.un_defs.proofs.Locality.{locality, or_both}
+use Rattle.un_defs.proofs.KeepsSound.{keeps_sound}
+use Rattle.un_index.specs.Kept.{stars_of}
+use Rattle.un_core.specs.State.{State, fresh_star}
+use Rattle.un_core.specs.Validation.{met, unmet, is_under, rebuilt}
+use Rattle.un_core.specs.Step.{Event, edits, validates, setting, next_of, edited, with_rules}
+use Rattle.un_core.specs.Validation.{validated}
+use Rattle.un_core.specs.Cover.{IsState, MayHappen, CoverLaw}
+use Rattle.un_core.proofs.NextIds.{new_after}
+use Rattle.un_core.proofs.Covered.{sound_with, star_with}
+use Rattle.un_core.proofs.LookUps.{sorted_map}
+use Rattle.un_core.proofs.Rebuilding.{rebuilt_under, rebuilt_elsewhere, rebuilt_sorted, rebuilt_told}
+use Rattle.un_core.proofs.Numbers.{numbered_more, under_more, any_enumerated, any_split}
+
+among_at : {A : Type 0} (xs : List A) (k : ℕ) (d : A) → k < length xs → Among xs (get_or xs k d)
+among_at [] k d l = absurd (omega arith)
+among_at (x ∷ xs) zero d l = inl refl
+among_at (x ∷ xs) (suc k) d l = inr (among_at xs k d (omega (arith, l)))
+
+pub all_from : {A : Type 0} (P : A → Type 0) (xs : List A) → ((x : A) → Among xs x → P x) → All P xs
+all_from P xs h k d l = h (get_or xs k d) (among_at xs k d l)
+
+-- ids are new at every moment
+same_ids : (next other : Next) (F : Features) → next.feature ≡ other.feature → next.association ≡ other.association → AreNew next F → AreNew other F
+same_ids next other F e g new = record { feature = subst (λ n. All (λ r. r.id < n) F.rows) e new.feature; association = subst (λ n. All (λ a. a.id < n) F.associations) g new.association }
+
+module _ (s : State) (is : IsState s) where
+  -- ---- an edit
+
+  module _ (e : Edit) (may : MayHappen s (edits e)) where
+    abbrev next_features : Features
+    next_features = changed (setting s) (next_of s) s.features e
+
+    edited_cover : (p : Point) → IsFalse (list_any (λ area. covers area.1 p) (s.areas ++ enumerate_from s.next_area (stain s.features e)))
+        → stars_of s.kept p ≡ star (with_rules s.catalog next_features.rules) next_features p
+    edited_cover p h =
+        let both = or_both (list_any (λ area. covers area.1 p) s.areas) (list_any (λ area. covers area.1 p) (enumerate_from s.next_area (stain s.features e)))
+        (sym (list_any-append (λ area. covers area.1 p) s.areas (enumerate_from s.next_area (stain s.features e))) ∙ h) in
+        is.cover p both.0
+        ∙ sym (locality (setting s) (next_of s) s.features e is.sound is.fresh_ids may p (sym (any_enumerated (λ r. covers r p) s.next_area (stain s.features e)) ∙ both.1))
+        ∙ sym (star_with s.catalog next_features next_features.rules p)
+
+    pub edited_state : IsState (edited s e)
+    edited_state = record {
+      sound = sound_with s.catalog next_features next_features.rules (keeps_sound (setting s) (next_of s) s.features e is.sound is.fresh_ids may);
+      rules = refl;
+      fresh_ids = same_ids (after (next_of s) e) (next_of (edited s e)) next_features refl refl (new_after (setting s) (next_of s) s.features e is.fresh_ids);
+      numbered = numbered_more s.areas (stain s.features e) s.next_area is.numbered is.numbers;
+      numbers = under_more s.areas (stain s.features e) s.next_area is.numbers;
+      sorted = is.sorted;
+      told = is.told;
+      cover = edited_cover;
+    }
+
+  -- ---- a validation
+
+  module _ (extent : Rectangle) where
+    validated_cover : (p : Point) → IsFalse (list_any (λ area. covers area.1 p) (unmet extent s.areas)) → stars_of (rebuilt s (met extent s.areas)) p ≡ fresh_star s p
+    validated_cover p h = go (is_under (met extent s.areas) p) refl
+      where
+        go : (b : Bool) → is_under (met extent s.areas) p ≡ b → stars_of (rebuilt s (met extent s.areas)) p ≡ fresh_star s p
+        go true e = rebuilt_under s (met extent s.areas) is.sound (sorted_map s.kept is.sorted) p e
+        go false e =
+            rebuilt_elsewhere s (met extent s.areas) (sorted_map s.kept is.sorted) p e
+            ∙ is.cover p (any_split (λ area. covers area.1 p) (λ area. meets area.1 extent) s.areas e h)
+
+    pub validated_state : IsState (validated s extent)
+    validated_state = record {
+      sound = is.sound;
+      rules = is.rules;
+      fresh_ids = same_ids (next_of s) (next_of (validated s extent)) s.features refl refl is.fresh_ids;
+      numbered = AllPairs-filter (λ a b. a.0 ≢ b.0) (λ area. not (meets area.1 extent)) s.areas is.numbered;
+      numbers = All-filter (λ area. not (meets area.1 extent)) (λ area. area.0 < s.next_area) s.areas is.numbers;
+      sorted = rebuilt_sorted s (met extent s.areas);
+      told = all_from (λ pair. pair.1 ≢ empty_star) (rebuilt s (met extent s.areas))
+          (rebuilt_told s (met extent s.areas) is.sound (λ pair h. from_all (λ pair. pair.1 ≢ empty_star) s.kept is.told pair h));
+      cover = validated_cover;
+    }
+
+pub cover_is_kept : CoverLaw
+cover_is_kept s (edits e) is may = edited_state s is e may
+cover_is_kept s (validates extent) is may = validated_state s is extent

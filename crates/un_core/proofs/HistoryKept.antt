@@ -1,0 +1,99 @@
+-- What is kept, and what is dirty, is what the history tells.
+use Rattle.std.proofs.Common.{◌≡◌, ℕ, ◌||◌, ◌&&◌, Bool, true, false, not, cond, List, [], ◌∷◌, ◌++◌, filter, refl, sym, ap, ◌∙◌, if◌then◌else◌}
+use Rattle.std.specs.List.{list_any}
+use Rattle.std.proofs.lemmas.List.{append-nil}
+use Rattle.un_geom.specs.declared.point.Point.{Point}
+use Rattle.un_geom.specs.Rectangle.{Rectangle}
+use Rattle.un_geom.specs.Places.{covers, meets}
+use Rattle.un_schema.specs.Catalog.{Catalog}
+use Rattle.un_defs.proofs.ListLemmas.{filter-append}
+use Rattle.un_index.specs.Kept.{stars_of}
+use Rattle.un_core.specs.State.{State, opening, fresh_star}
+use Rattle.un_core.specs.Validation.{met, unmet, is_under, rebuilt}
+use Rattle.un_core.specs.Step.{Event, edits, validates}
+use Rattle.un_core.specs.History.{after_all, made_by, clears, alive_under, dirty_after, kept_after, rebuilds}
+use Rattle.un_core.specs.Cover.{IsState, MayAllHappen, IsTold, HistoryLaw}
+use Rattle.un_core.proofs.LookUps.{sorted_map}
+use Rattle.un_core.proofs.Rebuilding.{rebuilt_under, rebuilt_elsewhere}
+use Rattle.un_core.proofs.Opening.{all_states}
+
+-- ---- filters
+
+filter_both : {A : Type 0} (p q r : A → Bool) → ((x : A) → r x ≡ (q x && p x)) → (xs : List A) → filter r xs ≡ filter p (filter q xs)
+filter_both p q r h [] = refl
+filter_both p q r h (x ∷ xs) = ap (λ b. cond b (x ∷ filter r xs) (filter r xs)) (h x) ∙ go (q x) (filter_both p q r h xs)
+  where
+    go : (b : Bool) → filter r xs ≡ filter p (filter q xs) → cond (b && p x) (x ∷ filter r xs) (filter r xs) ≡ filter p (cond b (x ∷ filter q xs) (filter q xs))
+    go true rest = ap (λ l. cond (p x) (x ∷ l) l) rest
+    go false rest = rest
+
+filter_all : {A : Type 0} (xs : List A) → filter (λ x. true) xs ≡ xs
+filter_all [] = refl
+filter_all (x ∷ xs) = ap (λ l. x ∷ l) (filter_all xs)
+
+any_filtered : {A : Type 0} (c m : A → Bool) (xs : List A) → list_any c (filter m xs) ≡ list_any (λ x. m x && c x) xs
+any_filtered c m [] = refl
+any_filtered c m (x ∷ xs) = go (m x) (any_filtered c m xs)
+  where
+    go : (b : Bool) → list_any c (filter m xs) ≡ list_any (λ x. m x && c x) xs → list_any c (cond b (x ∷ filter m xs) (filter m xs)) ≡ ((b && c x) || list_any (λ x. m x && c x) xs)
+    go true rest = ap (λ r. c x || r) rest
+    go false rest = rest
+
+any_pushed : {A : Type 0} (t : A → Bool) (xs : List A) (x : A) → not (list_any t (xs ++ x ∷ [])) ≡ (not (list_any t xs) && not (t x))
+any_pushed t [] x = ap not (or_false (t x))
+  where
+    or_false : (b : Bool) → (b || false) ≡ b
+    or_false true = refl
+    or_false false = refl
+any_pushed t (y ∷ ys) x = go (t y) (any_pushed t ys x)
+  where
+    go : (b : Bool) → not (list_any t (ys ++ x ∷ [])) ≡ (not (list_any t ys) && not (t x)) → not (b || list_any t (ys ++ x ∷ [])) ≡ (not (b || list_any t ys) && not (t x))
+    go true rest = refl
+    go false rest = rest
+
+-- ---- areas
+
+-- one event more clears the areas that it clears
+alive_later : (S : Catalog) (later : List Event) (e : Event) (before : List Event)
+    → alive_under S (later ++ e ∷ []) before ≡ filter (λ area. not (clears area e)) (alive_under S later before)
+alive_later S later e [] = refl
+alive_later S later e (d ∷ before) =
+    (λ i. alive_later S (d ∷ later) e before i ++ made i)
+    ∙ sym (filter-append (λ area. not (clears area e)) (alive_under S (d ∷ later) before) (filter (λ area. not (list_any (clears area) later)) (made_by (after_all S before) d)))
+  where
+    made : filter (λ area. not (list_any (clears area) (later ++ e ∷ []))) (made_by (after_all S before) d)
+        ≡ filter (λ area. not (clears area e)) (filter (λ area. not (list_any (clears area) later)) (made_by (after_all S before) d))
+    made = filter_both (λ area. not (clears area e)) (λ area. not (list_any (clears area) later)) (λ area. not (list_any (clears area) (later ++ e ∷ [])))
+        (λ area. any_pushed (clears area) later e) (made_by (after_all S before) d)
+
+-- ---- stars
+
+validated_kept : (S : Catalog) (before : List Event) (extent : Rectangle) (p : Point) → IsState (after_all S before) → IsTold S before
+    → stars_of (after_all S (validates extent ∷ before)).kept p ≡ kept_after S (validates extent ∷ before) p
+validated_kept S before extent p is told = go (is_under (met extent (after_all S before).areas) p) refl
+  where
+    same : is_under (met extent (after_all S before).areas) p ≡ rebuilds S before (validates extent) p
+    same = any_filtered (λ area. covers area.1 p) (λ area. meets area.1 extent) (after_all S before).areas ∙ ap (list_any (λ area. meets area.1 extent && covers area.1 p)) told.areas
+
+    go : (b : Bool) → is_under (met extent (after_all S before).areas) p ≡ b
+        → stars_of (rebuilt (after_all S before) (met extent (after_all S before).areas)) p ≡ (if rebuilds S before (validates extent) p then fresh_star (after_all S before) p else kept_after S before p)
+    go true e = rebuilt_under (after_all S before) (met extent (after_all S before).areas) is.sound (sorted_map (after_all S before).kept is.sorted) p e ∙ ap (λ b. if b then fresh_star (after_all S before) p else kept_after S before p) (sym e ∙ same)
+    go false e =
+        rebuilt_elsewhere (after_all S before) (met extent (after_all S before).areas) (sorted_map (after_all S before).kept is.sorted) p e ∙ told.kept p ∙ ap (λ b. if b then fresh_star (after_all S before) p else kept_after S before p) (sym e ∙ same)
+
+-- ---- both
+
+pub kept_is_history : HistoryLaw
+kept_is_history S [] may = record { areas = refl; kept = λ p. refl }
+kept_is_history S (edits e ∷ before) may =
+    let told = kept_is_history S before may.1 in
+    record {
+      areas = λ i. (told.areas ∙ sym (filter_all (dirty_after S before)) ∙ sym (alive_later S [] (edits e) before)) i ++ sym (filter_all (made_by (after_all S before) (edits e))) i;
+      kept = told.kept;
+    }
+kept_is_history S (validates extent ∷ before) may =
+    let told = kept_is_history S before may.1 in
+    record {
+      areas = ap (unmet extent) told.areas ∙ sym (alive_later S [] (validates extent) before) ∙ sym (append-nil (alive_under S (validates extent ∷ []) before));
+      kept = λ p. validated_kept S before extent p (all_states S before may.1) told;
+    }

@@ -1,0 +1,14 @@
+pub mod NextIds
+pub mod Covered
+pub mod LookUps
+pub mod Rebuilding
+pub mod Numbers
+pub mod CoverKept
+pub mod Opening
+pub mod HistoryKept
+pub mod Spreading
+pub mod Canonical
+pub mod Telling
+pub mod Replaced
+pub mod Grounds
+pub mod Listed

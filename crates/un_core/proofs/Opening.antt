@@ -1,0 +1,37 @@
+-- The opening state is a state, and so is each that a history leads to.
+use Rattle.std.proofs.Common.{◌≡◌, ℕ, List, [], ◌∷◌, refl, sym, arith}
+use Rattle.std.specs.List.Sorted.{IsStrictlySortedBy}
+use Rattle.un_schema.specs.Catalog.{Catalog}
+use Rattle.un_core.specs.State.{State, opening}
+use Rattle.un_core.specs.Validation.{by_point}
+use Rattle.un_core.specs.Step.{Event}
+use Rattle.un_core.specs.History.{after_all}
+use Rattle.un_core.specs.Cover.{IsState, MayAllHappen}
+use Rattle.un_core.proofs.CoverKept.{cover_is_kept}
+
+sorted_nil : IsStrictlySortedBy by_point []
+unfolding IsStrictlySortedBy
+sorted_nil = tt
+
+pub opening_state : (S : Catalog) → IsState (opening S)
+opening_state S = record {
+  sound = record {
+    rows = λ i j d l m. absurd (omega arith);
+    associations = λ i j d l m. absurd (omega arith);
+    controllers = λ i j d l m. absurd (omega arith);
+    kinds = λ i d l. absurd (omega arith);
+    ends = λ i d l. absurd (omega arith);
+    controlled = λ i d l. absurd (omega arith);
+  };
+  rules = refl;
+  fresh_ids = record { feature = λ i d l. absurd (omega arith); association = λ i d l. absurd (omega arith) };
+  numbered = λ i j d l m. absurd (omega arith);
+  numbers = λ i d l. absurd (omega arith);
+  sorted = sorted_nil;
+  told = λ i d l. absurd (omega arith);
+  cover = λ p _. refl;
+}
+
+pub all_states : (S : Catalog) (history : List Event) → MayAllHappen S history → IsState (after_all S history)
+all_states S [] may = opening_state S
+all_states S (e ∷ before) may = cover_is_kept (after_all S before) e (all_states S before may.1) may.0

@@ -1,0 +1,48 @@
+-- What holds of every state, and what is to be shown of it.
+use Rattle.std.specs.Prelude.{◌≡◌, ◌≢◌, ℕ, ◌<◌, List, [], ◌∷◌, All, AllPairs, ⊤, IsFalse}
+use Rattle.std.specs.List.Sorted.{IsStrictlySortedBy}
+use Rattle.un_geom.specs.declared.point.Point.{Point}
+use Rattle.un_schema.specs.Catalog.{Catalog}
+use Rattle.un_defs.specs.declared.star.Star.{Star}
+use Rattle.un_defs.specs.Star.{empty_star}
+use Rattle.un_defs.specs.Sound.{IsSound}
+use Rattle.un_defs.specs.Ground.{AreNumbered}
+use Rattle.un_defs.specs.Laws.{IsCovered, AreNew, MayBeMade}
+use Rattle.un_index.specs.Kept.{stars_of}
+use Rattle.un_core.specs.State.{State, kept_ground}
+use Rattle.un_core.specs.Validation.{by_point}
+use Rattle.un_core.specs.Step.{Event, edits, validates, setting, next_of, step}
+use Rattle.un_core.specs.History.{after_all, dirty_after, kept_after}
+
+-- the features are sound, the next ids and numbers are new, and each point that no dirty area covers has its fresh star
+pub record IsState (s : State) : Type 0 where
+  pub sound : IsSound s.catalog s.features
+  pub rules : s.features.rules ≡ s.catalog.rules
+  pub fresh_ids : AreNew (next_of s) s.features
+  pub numbered : AreNumbered s.areas
+  pub numbers : All (λ area. area.0 < s.next_area) s.areas
+  pub sorted : IsStrictlySortedBy by_point s.kept
+  pub told : All (λ pair. pair.1 ≢ empty_star) s.kept
+  pub cover : IsCovered s.catalog s.features (kept_ground s)
+
+-- an edit that is accepted may be made; it changes no rules, which are those of the schema; a validation is always accepted
+abbrev pub MayHappen : State → Event → Type 0
+MayHappen s (edits e) = MayBeMade (setting s) (next_of s) s.features e
+MayHappen s (validates extent) = ⊤
+
+-- each event might happen after those before it
+abbrev pub MayAllHappen : Catalog → List Event → Type 0
+MayAllHappen S [] = ⊤
+MayAllHappen S (e ∷ before) = MayHappen (after_all S before) e × MayAllHappen S before
+
+-- the opening state is one, and what might happen to a state leaves a state
+abbrev pub CoverLaw : Type 0
+CoverLaw = (s : State) (e : Event) → IsState s → MayHappen s e → IsState (step s e)
+
+-- what is kept, and what is dirty, is what the history tells
+pub record IsTold (S : Catalog) (history : List Event) : Type 0 where
+  pub areas : (after_all S history).areas ≡ dirty_after S history
+  pub kept : (p : Point) → stars_of (after_all S history).kept p ≡ kept_after S history p
+
+abbrev pub HistoryLaw : Type 0
+HistoryLaw = (S : Catalog) (history : List Event) → MayAllHappen S history → IsTold S history
