@@ -12,3 +12,6 @@ pub mod Telling
 pub mod Replaced
 pub mod Grounds
 pub mod Listed
+pub mod Inserted
+pub mod Pointed
+pub mod Rebuilt

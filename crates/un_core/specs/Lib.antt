@@ -5,3 +5,5 @@ pub mod History
 pub mod Cover
 pub mod Walked
 pub mod Listed
+pub mod Held
+pub mod Refusals

@@ -1,4 +1,12 @@
 //! The state of a network: what commands do to it, and what queries answer of it.
 #![tactic(auto)]
 
+mod insert;
 pub mod laws;
+mod live;
+pub mod net;
+mod points;
+pub mod validate;
+
+pub use net::Net;
+pub use validate::Validated;

@@ -1,0 +1,89 @@
+//! The network.
+ghost use Rattle.std.specs.Prelude.{◌≡◌, ◌<◌, [], ◌∷◌, Some, None, IfOk, OnOk, IfErr};
+ghost use Rattle.un_core.specs.State.{State, opening};
+ghost use Rattle.un_core.specs.Cover.{IsState};
+ghost use Rattle.un_core.specs.Refusals.{numbers_due};
+
+use std::alloc::{AllocError, Global};
+use std::marker::Model;
+use std::sync::Arc;
+use un_defs::{Limit, Refusal};
+use un_dirty::Dirty;
+use un_grid::Grid;
+use un_index::Index;
+use un_schema::Schema;
+use un_store::Store;
+
+/// From here on a version, an id or an area's number is none.
+const LAST_NUMBER: u64 = 9_000_000_000_000_000;
+
+/// The state of a network. It never changes: what a command does to it is a new one, which shares with it what stays.
+#[derive(Drop)]
+pub struct Net {
+    pub(crate) schema: Arc<Schema>,
+    pub(crate) rows: Store,
+    pub(crate) grid: Grid,
+    pub(crate) kept: Index,
+    pub(crate) dirty: Dirty,
+    pub(crate) version: u64,
+    pub(crate) next_feature: u64,
+}
+
+impl Model for Net {
+    ghost use Rattle.std.specs.Arc.{arc_value};
+    ghost use Rattle.un_core.specs.State.{State};
+    ghost use Rattle.un_core.specs.Held.{held, features_in};
+    ghost use Rattle.un_core.specs.Cover.{IsState};
+    ghost use Rattle.un_grid.specs.Grids.{IsGridOf};
+
+    ghost Value = { State };
+
+    ghost view = { λ n. held (arc_value n.schema) n.rows n.kept n.dirty n.version n.next_feature };
+
+    ghost invariant = { λ n. IsState (held (arc_value n.schema) n.rows n.kept n.dirty n.version n.next_feature)
+        × IsGridOf n.grid (features_in (arc_value n.schema) n.rows) };
+}
+
+impl Net {
+    /// The network without features under a schema.
+    pub fn open(alloc: Global, schema: Schema) -> Result<Net, AllocError>
+        ensures { IfOk result (λ net. net ≡ opening schema) }
+    {
+        Ok(Net {
+            schema: Arc::new(alloc, schema)?,
+            rows: Store::new(alloc),
+            grid: Grid::new(alloc),
+            kept: Index::new(alloc),
+            dirty: Dirty::new(alloc),
+            version: 0,
+            next_feature: 1,
+        })
+    }
+
+    /// How many commands were accepted.
+    pub fn version(&self) -> u64
+        ensures version { result ≡ self.now.version }
+        ensures state { IsState self.now }
+    {
+        self.version
+    }
+
+    /// Refuses where the versions, the ids or the numbers of areas are used up.
+    pub(crate) fn check_numbers(&self) -> Result<(), Refusal>
+        ensures good { OnOk result (numbers_due self.now ≡ None) }
+        ensures bad { IfErr result (λ refusal. numbers_due self.now ≡ Some refusal) }
+        ensures version { OnOk result (self.now.version < 9_000_000_000_000_000) }
+        ensures feature { OnOk result (self.now.next_feature < 9_000_000_000_000_000) }
+        ensures area { OnOk result (self.now.next_area < 9_000_000_000_000_000) }
+    {
+        if self.version >= LAST_NUMBER
+            || self.next_feature >= LAST_NUMBER
+            || self.dirty.next_number() >= LAST_NUMBER
+        {
+            return Err(Refusal::Full {
+                what: Limit::Numbers,
+            });
+        }
+        Ok(())
+    }
+}

@@ -1,0 +1,114 @@
+//! Validations.
+ghost use Rattle.std.specs.Prelude.{◌≡◌, ◌≢◌, ◌+◌, ◌≤◌, length, Some, None, IfOk, OnOk, IfErr};
+ghost use Rattle.std.specs.List.{sum_by};
+ghost use Rattle.un_defs.specs.declared.refusal.Refusal.TheVariants.{Memory};
+ghost use Rattle.std.specs.Arc.{arc_value};
+ghost use Rattle.un_defs.specs.Star.{star};
+ghost use Rattle.un_core.specs.State.{fresh_star};
+ghost use Rattle.un_core.specs.Held.{features_in};
+ghost use Rattle.un_core.specs.Validation.{validated, met, errors_under, AreRebuilt, IsKept};
+ghost use Rattle.un_core.specs.Refusals.{numbers_due};
+
+use crate::live::Live;
+use crate::net::Net;
+use std::alloc::{AllocError, Global};
+use std::sync::Arc;
+use un_defs::{Refusal, Star};
+use un_geom::{Point, Rect};
+use un_index::Index;
+use un_star::build;
+
+/// A network once an extent was validated, with how many areas were cleared and how many errors stand under them.
+#[derive(Drop)]
+pub struct Validated {
+    pub net: Net,
+    pub cleared: u64,
+    pub errors: u64,
+}
+
+/// What is kept once some points have the stars of all features, and how many errors these stars have.
+#[derive(Drop)]
+struct Rebuilt {
+    kept: Index,
+    errors: u64,
+}
+
+// One count more. A count that is too great is one of errors that no memory holds.
+fn with_errors(errors: u64, star: &Star) -> Result<u64, Refusal>
+    ensures sum { IfOk result (λ n. n ≡ errors + length star.now.errors) }
+    ensures memory { IfErr result (λ refusal. refusal ≡ Memory) }
+{
+    match errors.checked_add(star.errors.as_slice().len() as u64) {
+        Some(sum) => Ok(sum),
+        None => Err(Refusal::Memory),
+    }
+}
+
+// The star of the features at a point.
+fn star_at(alloc: Global, live: &Live, p: Point) -> Result<Arc<Star>, AllocError>
+    ensures { IfOk result (λ s. arc_value s ≡ star live.now.schema.now (features_in live.now.schema.now live.now.rows.now) p) }
+{
+    Ok(Arc::new(alloc, build(alloc, live, p)?)?)
+}
+
+impl Net {
+    /// The features as the stars are built of them.
+    pub(crate) fn live(&self) -> Live<'_>
+        ensures schema { result.schema.now ≡ self.now.catalog }
+        ensures features { features_in result.schema.now result.rows.now ≡ self.now.features }
+    {
+        Live {
+            schema: &self.schema,
+            rows: &self.rows,
+            grid: &self.grid,
+        }
+    }
+
+    // What is kept once these points have the stars of all features.
+    fn rebuilt(&self, alloc: Global, points: &[Point]) -> Result<Rebuilt, Refusal>
+        ensures stars { IfOk result (λ r. AreRebuilt self.now points.now r.kept) }
+        ensures kept { IfOk result (λ r. IsKept r.kept) }
+        ensures errors { IfOk result (λ r. r.errors ≡ sum_by (λ p. length (fresh_star self.now p).errors) points.now) }
+        ensures memory { IfErr result (λ refusal. refusal ≡ Memory) }
+    {
+        let live = self.live();
+        let mut kept = self.kept.share()?;
+        let mut errors = 0;
+        for point in points {
+            let star = star_at(alloc, &live, *point)?;
+            errors = with_errors(errors, &star)?;
+            kept = kept.replace(alloc, *point, star)?;
+        }
+        let _len = kept.len();
+        Ok(Rebuilt { kept, errors })
+    }
+
+    /// The network once the topology is fresh under each dirty area that meets the extent, and these areas are cleared.
+    ///
+    /// It is refused where the numbers are used up.
+    pub fn validate(&self, alloc: Global, extent: Rect) -> Result<Validated, Refusal>
+        ensures state { IfOk result (λ v. v.net ≡ validated self.now extent) }
+        ensures cleared { IfOk result (λ v. v.cleared ≡ length (met extent self.now.areas)) }
+        ensures errors { IfOk result (λ v. v.errors ≡ errors_under self.now (met extent self.now.areas)) }
+        ensures good { OnOk result (numbers_due self.now ≡ None) }
+        ensures bad { IfErr result (λ refusal. refusal ≢ Memory → numbers_due self.now ≡ Some refusal) }
+    {
+        self.check_numbers()?;
+        let areas = self.dirty.meeting(alloc, extent)?;
+        let points = self.points_under(alloc, &areas)?;
+        let rebuilt = self.rebuilt(alloc, &points)?;
+        Ok(Validated {
+            net: Net {
+                schema: self.schema.clone()?,
+                rows: self.rows.share()?,
+                grid: self.grid.share()?,
+                kept: rebuilt.kept,
+                dirty: self.dirty.clear_meeting(alloc, extent)?,
+                version: self.version + 1,
+                next_feature: self.next_feature,
+            },
+            cleared: areas.len() as u64,
+            errors: rebuilt.errors,
+        })
+    }
+}
