@@ -1,5 +1,5 @@
 -- The rule between a log and the word that stands for it, and what a step at the word tells.
-use Rattle.std.specs.Prelude.{ℕ, ◌≡◌, ◌==◌, ◌<◌, true, List, [], ◌∷◌, ◌++◌, length, MatchBool}
+use Rattle.std.specs.Prelude.{ℕ, ◌≡◌, ◌==◌, ◌≤◌, ◌<◌, ◌^◌, true, List, [], ◌∷◌, ◌++◌, length, MatchBool}
 use mathlib.Core.List.{IsPrefix}
 use Rattle.logbook.specs.Pages.{Cell, Step, View, Book, Named}
 
@@ -23,3 +23,7 @@ module _ {E : Type 0} where
   -- ys begins with xs, and goes on
   abbrev pub IsLonger : List E → List E → Type 0
   IsLonger xs ys = IsPrefix xs ys × (length xs < length ys)
+
+  -- as many entries as a log may have, and none was added
+  abbrev pub IsFull : List E → List E → Type 0
+  IsFull xs ys = (2 ^ 62 ≤ length xs) × (ys ≡ xs)

@@ -9,7 +9,7 @@
 //! Copying, comparing and adding take a few instructions and no memory, and wait for nobody.
 ghost use Rattle.std.specs.Prelude.{◌≡◌, ◌+◌, ◌==◌, ◌<◌, ◌≤◌, ◌^◌, ◌++◌, ◌∷◌, ◌⊎◌, [], length, MatchBool};
 ghost use mathlib.Core.List.{IsPrefix};
-ghost use Rattle.un_publish.specs.LogWord.{head_of, IsLonger};
+ghost use Rattle.un_publish.specs.LogWord.{head_of, IsFull, IsLonger};
 
 use logbook::{Gain, Offer, Plain, Play, Rule, Seen, Start, Word};
 use std::marker::{Brand, Model, PhantomData};
@@ -174,10 +174,10 @@ impl<E, J: LogName> Prefix<E, J> {
         self.count <= other.count
     }
 
-    /// Adds an entry to the log, where this is all of it, and says whether it did. If not, the log was longer or is
-    /// as long as a log may be, and this may be a longer beginning of it.
+    /// Adds an entry to the log, where this is all of it and there is room for one more, and says whether it did. If
+    /// not, the log was longer, and this is then a longer beginning of it; or this has as many entries as a log may have.
     pub fn add(&mut self, word: &LogLength<E, J>, entry: &E) -> bool
-        ensures { MatchBool result (self.new ≡ self.old ++ entry.now ∷ []) (IsPrefix self.old self.new) }
+        ensures { MatchBool result (self.new ≡ self.old ++ entry.now ∷ []) (IsLonger self.old self.new ⊎ IsFull self.old self.new) }
     {
         if self.count >= MOST {
             return false;
