@@ -8,4 +8,6 @@ mod counter;
 #[cfg(test)]
 mod journal;
 #[cfg(test)]
+mod memory;
+#[cfg(test)]
 mod threads;
