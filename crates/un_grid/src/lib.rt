@@ -20,6 +20,8 @@ mod grid;
 mod laws;
 mod nodes;
 mod port_list;
+#[cfg(test)]
+mod tests;
 
 pub use grid::Grid;
 pub use laws::insert_law;
