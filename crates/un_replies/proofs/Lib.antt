@@ -1,0 +1,4 @@
+pub mod RefusalTexts
+pub mod Plain
+pub mod Steps
+pub mod Groups

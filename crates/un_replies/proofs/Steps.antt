@@ -1,0 +1,50 @@
+-- Pieces that are put behind one another.
+use Rattle.std.proofs.Common.{◌≡◌, ℕ, Bool, true, false, List, [], ◌∷◌, ◌++◌, codes, decimal, refl, ap, sym, append_assoc, append-nil, ◌∙◌}
+use Rattle.serde_json.specs.Written.{compact_text, items_text, comma_if}
+use Rattle.json.specs.Print.{quoted}
+use Rattle.serde_json.specs.Data.{Data}
+use Rattle.un_replies.specs.Pieces.{leading, following}
+use Rattle.un_replies.specs.Values.{count, counts, items_of}
+
+-- a text in its quotes
+pub put_quoted : (start text a b c : List ℕ) → a ≡ start ++ codes "\"" → b ≡ a ++ text → c ≡ b ++ codes "\"" → c ≡ start ++ 34 ∷ (text ++ 34 ∷ [])
+put_quoted start text a b c first second third =
+    third ∙ ap (λ t. t ++ codes "\"") (second ∙ ap (λ t. t ++ text) first)
+    ∙ append_assoc (start ++ codes "\"") text (codes "\"") ∙ append_assoc start (codes "\"") (text ++ codes "\"")
+
+-- the numbers are printed but for these
+pub record IsPrintedBut (start : List ℕ) (later : Bool) (rest all : List ℕ) (out : List ℕ) : Type 0 where
+  pub same : out ++ items_text later (items_of count rest) ≡ start ++ items_text false (items_of count all)
+
+-- one more is printed
+pub printed_one : (start : List ℕ) (later : Bool) (number : ℕ) (rest all : List ℕ) (out : List ℕ) → IsPrintedBut start later (number ∷ rest) all out → IsPrintedBut start true rest all ((out ++ comma_if later) ++ decimal number)
+printed_one start later number rest all out h = record {
+  same = append_assoc (out ++ comma_if later) (decimal number) (items_text true (items_of count rest))
+      ∙ append_assoc out (comma_if later) (decimal number ++ items_text true (items_of count rest)) ∙ h.same;
+}
+
+-- all are printed
+pub printed_all : (start : List ℕ) (later : Bool) (all : List ℕ) (out : List ℕ) → IsPrintedBut start later [] all out → out ++ codes "]" ≡ start ++ items_text false (items_of count all)
+printed_all start later all out h = h.same
+
+-- a list in its brackets
+pub put_list : (start a b c : List ℕ) (numbers : List ℕ) → a ≡ start ++ codes "[" → b ++ codes "]" ≡ a ++ items_text false (items_of count numbers) → c ≡ b ++ codes "]" → c ≡ start ++ compact_text (counts numbers)
+put_list start a b c numbers first second third =
+    third ∙ second ∙ ap (λ t. t ++ items_text false (items_of count numbers)) first ∙ append_assoc start (codes "[") (items_text false (items_of count numbers))
+
+-- a member with the comma behind it
+pub lead_one : (start a b c d k : List ℕ) (v : Data) → a ≡ start ++ quoted k → b ≡ a ++ codes ":" → c ≡ b ++ compact_text v → d ≡ c ++ codes "," → d ≡ start ++ leading ((k, v) ∷ [])
+lead_one start a b c d k v first second third fourth =
+    let name = quoted k in
+    let value = compact_text v in
+    fourth ∙ ap (λ t. t ++ codes ",") (third ∙ ap (λ t. t ++ value) (second ∙ ap (λ t. t ++ codes ":") first))
+    ∙ append_assoc ((start ++ name) ++ codes ":") value (codes ",") ∙ append_assoc (start ++ name) (codes ":") (value ++ codes ",") ∙ append_assoc start name (codes ":" ++ (value ++ codes ","))
+
+-- a member with the comma before it
+pub follow_one : (start a b c d k : List ℕ) (v : Data) → a ≡ start ++ codes "," → b ≡ a ++ quoted k → c ≡ b ++ codes ":" → d ≡ c ++ compact_text v → d ≡ start ++ following ((k, v) ∷ [])
+follow_one start a b c d k v first second third fourth =
+    let name = quoted k in
+    let value = compact_text v in
+    fourth ∙ ap (λ t. t ++ value) (third ∙ ap (λ t. t ++ codes ":") (second ∙ ap (λ t. t ++ name) first))
+    ∙ append_assoc ((start ++ codes ",") ++ name) (codes ":") value ∙ append_assoc (start ++ codes ",") name (codes ":" ++ value) ∙ append_assoc start (codes ",") (name ++ (codes ":" ++ value))
+    ∙ ap (λ t. start ++ (44 ∷ (name ++ (58 ∷ t)))) (sym (append-nil value))

@@ -1,0 +1,5 @@
+pub mod Values
+pub mod Refusals
+pub mod Replies
+pub mod Commands
+pub mod Pieces
