@@ -2,3 +2,5 @@ pub mod RefusalTexts
 pub mod Plain
 pub mod Steps
 pub mod Groups
+pub mod CommandTexts
+pub mod Commands

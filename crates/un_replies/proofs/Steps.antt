@@ -3,7 +3,7 @@ use Rattle.std.proofs.Common.{◌≡◌, ℕ, Bool, true, false, List, [], ◌�
 use Rattle.serde_json.specs.Written.{compact_text, items_text, comma_if}
 use Rattle.json.specs.Print.{quoted}
 use Rattle.serde_json.specs.Data.{Data}
-use Rattle.un_replies.specs.Pieces.{leading, following}
+use Rattle.un_replies.specs.Pieces.{leading, following, opening}
 use Rattle.un_replies.specs.Values.{count, counts, items_of}
 
 -- a text in its quotes
@@ -48,3 +48,11 @@ follow_one start a b c d k v first second third fourth =
     fourth ∙ ap (λ t. t ++ value) (third ∙ ap (λ t. t ++ codes ":") (second ∙ ap (λ t. t ++ name) first))
     ∙ append_assoc ((start ++ codes ",") ++ name) (codes ":") value ∙ append_assoc (start ++ codes ",") name (codes ":" ++ value) ∙ append_assoc start (codes ",") (name ++ (codes ":" ++ value))
     ∙ ap (λ t. start ++ (44 ∷ (name ++ (58 ∷ t)))) (sym (append-nil value))
+
+-- an object up to its first member
+pub open_one : (start a b c d k : List ℕ) (v : Data) → a ≡ start ++ codes "{" → b ≡ a ++ quoted k → c ≡ b ++ codes ":" → d ≡ c ++ compact_text v → d ≡ start ++ opening (k, v)
+open_one start a b c d k v first second third fourth =
+    let name = quoted k in
+    let value = compact_text v in
+    fourth ∙ ap (λ t. t ++ value) (third ∙ ap (λ t. t ++ codes ":") (second ∙ ap (λ t. t ++ name) first))
+    ∙ append_assoc ((start ++ codes "{") ++ name) (codes ":") value ∙ append_assoc (start ++ codes "{") name (codes ":" ++ value) ∙ append_assoc start (codes "{") (name ++ (codes ":" ++ value))

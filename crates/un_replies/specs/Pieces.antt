@@ -62,3 +62,7 @@ late other = []
 abbrev pub last : Refusal → List (List ℕ × Data)
 last (refusal.Full what) = (codes "what", string (limit_text what)) ∷ []
 last other = []
+
+-- an object up to its first member
+abbrev pub opening : List ℕ × Data → List ℕ
+opening m = 123 ∷ (quoted m.0 ++ 58 ∷ compact_text m.1)

@@ -1,12 +1,12 @@
 //! Members of objects, with the comma behind them or before them, where there is room for them.
-ghost use Rattle.std.specs.Prelude.{◌≡◌, ◌+◌, ◌≤◌, [], ◌∷◌, ◌++◌, length, vec_len, vec_capacity};
+ghost use Rattle.std.specs.Prelude.{◌≡◌, ◌+◌, ◌*◌, ◌≤◌, [], ◌∷◌, ◌++◌, length, vec_len, vec_capacity};
 ghost use Rattle.json.specs.Print.{escape, quoted};
 ghost use Rattle.serde_json.specs.Data.{string};
 ghost use Rattle.un_schema.specs.Names.{IsName};
-ghost use Rattle.un_replies.specs.Values.{count};
-ghost use Rattle.un_replies.specs.Pieces.{leading, following};
+ghost use Rattle.un_replies.specs.Values.{count, counts};
+ghost use Rattle.un_replies.specs.Pieces.{leading, following, opening};
 
-use crate::put::{put, put_name, put_number, put_string};
+use crate::put::{put, put_counts, put_name, put_number, put_string};
 use un_schema::Name;
 
 /// Puts a number and the comma behind it.
@@ -85,4 +85,49 @@ pub(crate) fn follow_string(out: &mut Vec<u8>, name: &str, value: &str)
     put_string(out, name);
     put(out, b":");
     put_string(out, value);
+}
+
+/// Puts a comma and a list of numbers.
+#[tactic(auto, using(crate::proofs::Steps::follow_one))]
+pub(crate) fn follow_counts(out: &mut Vec<u8>, name: &str, numbers: &[u64])
+    requires plain { escape name.now ≡ name.now }
+    requires room { vec_len out.old + length name.now + 21 * length numbers.now + 6 ≤ vec_capacity out.old }
+    ensures items { out.new.items ≡ out.old.items ++ following ((name.now, counts numbers.now) ∷ []) }
+    ensures len { vec_len out.new ≤ vec_len out.old + length name.now + 21 * length numbers.now + 6 }
+    ensures capacity { vec_capacity out.old ≤ vec_capacity out.new }
+{
+    put(out, b",");
+    put_string(out, name);
+    put(out, b":");
+    put_counts(out, numbers);
+}
+
+/// Puts the beginning of an object of which the first member is a number.
+#[tactic(auto, using(crate::proofs::Steps::open_one))]
+pub(crate) fn open_count(out: &mut Vec<u8>, name: &str, number: u64)
+    requires plain { escape name.now ≡ name.now }
+    requires room { vec_len out.old + length name.now + 24 ≤ vec_capacity out.old }
+    ensures items { out.new.items ≡ out.old.items ++ opening (name.now, count number) }
+    ensures len { vec_len out.new ≤ vec_len out.old + length name.now + 24 }
+    ensures capacity { vec_capacity out.old ≤ vec_capacity out.new }
+{
+    put(out, b"{");
+    put_string(out, name);
+    put(out, b":");
+    put_number(out, number);
+}
+
+/// Puts the beginning of an object of which the first member is a list of numbers.
+#[tactic(auto, using(crate::proofs::Steps::open_one))]
+pub(crate) fn open_counts(out: &mut Vec<u8>, name: &str, numbers: &[u64])
+    requires plain { escape name.now ≡ name.now }
+    requires room { vec_len out.old + length name.now + 21 * length numbers.now + 6 ≤ vec_capacity out.old }
+    ensures items { out.new.items ≡ out.old.items ++ opening (name.now, counts numbers.now) }
+    ensures len { vec_len out.new ≤ vec_len out.old + length name.now + 21 * length numbers.now + 6 }
+    ensures capacity { vec_capacity out.old ≤ vec_capacity out.new }
+{
+    put(out, b"{");
+    put_string(out, name);
+    put(out, b":");
+    put_counts(out, numbers);
 }
