@@ -4,3 +4,4 @@ pub mod Steps
 pub mod Groups
 pub mod CommandTexts
 pub mod Commands
+pub mod Shows

@@ -7,3 +7,4 @@ mod command;
 mod member;
 mod put;
 mod refusal;
+mod shown;
