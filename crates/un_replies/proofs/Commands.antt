@@ -1,6 +1,16 @@
 -- What holds of the replies of commands.
 use Rattle.std.proofs.Common.{◌≡◌, ◌≢◌, ℕ, ◌+◌, ◌*◌, ◌≤◌, List, length, Option, refl, arith}
+use Rattle.un_geom.specs.declared.point.Point.{Point}
+use Rattle.un_geom.specs.Rectangle.{Rectangle}
+use Rattle.un_defs.specs.declared.port.Port.{Port}
+use Rattle.un_defs.specs.declared.assoc.Controller.{Controller}
+use Rattle.un_defs.specs.declared.star.TopoError.{TopoError}
 use Rattle.un_defs.specs.declared.refusal.Refusal.{Refusal}
+use Rattle.un_ask.specs.declared.stored.Status.{Status}
+use Rattle.un_ask.specs.declared.results.Part.{Part}
+use Rattle.un_ask.specs.declared.results.Segment.{Segment}
+use Rattle.un_ask.specs.declared.reply.FeatureReply.{FeatureReply}
+use Rattle.un_ask.specs.declared.reply.ResultReply.{ResultReply}
 use Rattle.un_ask.specs.declared.word.EditWord.{EditWord}
 use Rattle.un_ask.specs.declared.stored.StoredSubnet.{StoredSubnet}
 use Rattle.un_ask.specs.declared.reply.Reply.{Reply}
@@ -32,6 +42,34 @@ other_reply (reply.Loops segments version) command h0 h1 h2 h3 h4 h5 = absurd co
 other_reply (reply.Isolation borders features version) command h0 h1 h2 h3 h4 h5 = absurd command
 other_reply (reply.Refused refusal edit version) command h0 h1 h2 h3 h4 h5 = h5 refusal edit version refl
 
+-- a reply that is none of these is not one of a query
+pub other_query : (r : Reply) → ¬ IsOfCommand r
+    → ((version : ℕ) → r ≢ reply.Version version)
+    → ((feature : FeatureReply) (version : ℕ) → r ≢ reply.Feature feature version)
+    → ((areas : List (ℕ × Rectangle)) (version : ℕ) → r ≢ reply.Dirty areas version)
+    → ((errors : List (Point × TopoError)) (version : ℕ) → r ≢ reply.Errors errors version)
+    → ((controllers : List Port) (members : List ℕ) (status : Status) (subnet : List ℕ) (tier : List ℕ) (updated : ℕ) (version : ℕ) → r ≢ reply.Subnet controllers members status subnet tier updated version)
+    → ((traced : ResultReply) (version : ℕ) → r ≢ reply.Traced traced version)
+    → ((controllers : List Controller) (version : ℕ) → r ≢ reply.Controllers controllers version)
+    → ((segments : List Segment) (version : ℕ) → r ≢ reply.Loops segments version)
+    → ((borders : List Port) (features : List Part) (version : ℕ) → r ≢ reply.Isolation borders features version)
+    → ⊥
+other_query (reply.Edited areas id word version) query h0 h1 h2 h3 h4 h5 h6 h7 h8 = absurd (query tt)
+other_query (reply.Batch areas ids version) query h0 h1 h2 h3 h4 h5 h6 h7 h8 = absurd (query tt)
+other_query (reply.Ruled areas rules version) query h0 h1 h2 h3 h4 h5 h6 h7 h8 = absurd (query tt)
+other_query (reply.Validated cleared errors version) query h0 h1 h2 h3 h4 h5 h6 h7 h8 = absurd (query tt)
+other_query (reply.Updated row version) query h0 h1 h2 h3 h4 h5 h6 h7 h8 = absurd (query tt)
+other_query (reply.Version version) query h0 h1 h2 h3 h4 h5 h6 h7 h8 = h0 version refl
+other_query (reply.Feature feature version) query h0 h1 h2 h3 h4 h5 h6 h7 h8 = h1 feature version refl
+other_query (reply.Dirty areas version) query h0 h1 h2 h3 h4 h5 h6 h7 h8 = h2 areas version refl
+other_query (reply.Errors errors version) query h0 h1 h2 h3 h4 h5 h6 h7 h8 = h3 errors version refl
+other_query (reply.Subnet controllers members status subnet tier updated version) query h0 h1 h2 h3 h4 h5 h6 h7 h8 = h4 controllers members status subnet tier updated version refl
+other_query (reply.Traced traced version) query h0 h1 h2 h3 h4 h5 h6 h7 h8 = h5 traced version refl
+other_query (reply.Controllers controllers version) query h0 h1 h2 h3 h4 h5 h6 h7 h8 = h6 controllers version refl
+other_query (reply.Loops segments version) query h0 h1 h2 h3 h4 h5 h6 h7 h8 = h7 segments version refl
+other_query (reply.Isolation borders features version) query h0 h1 h2 h3 h4 h5 h6 h7 h8 = h8 borders features version refl
+other_query (reply.Refused refusal edit version) query h0 h1 h2 h3 h4 h5 h6 h7 h8 = absurd (query tt)
+
 -- 256 ids and what stands round them fit in the room of a command's reply
 pub few_fit : (r : Reply) → HasFewIds r → command_room r ≤ 5504
 few_fit (reply.Edited areas id word version) few = omega arith
@@ -49,3 +87,21 @@ few_fit (reply.Controllers controllers version) few = omega arith
 few_fit (reply.Loops segments version) few = omega arith
 few_fit (reply.Isolation borders features version) few = omega arith
 few_fit (reply.Refused refusal edit version) few = omega arith
+
+-- any reply but a batch is short
+pub room_of_other : (r : Reply) → ((areas ids : List ℕ) (version : ℕ) → r ≢ reply.Batch areas ids version) → command_room r ≡ 512
+room_of_other (reply.Edited areas id word version) other = refl
+room_of_other (reply.Batch areas ids version) other = absurd (other areas ids version refl)
+room_of_other (reply.Ruled areas rules version) other = refl
+room_of_other (reply.Validated cleared errors version) other = refl
+room_of_other (reply.Updated row version) other = refl
+room_of_other (reply.Version version) other = refl
+room_of_other (reply.Feature feature version) other = refl
+room_of_other (reply.Dirty areas version) other = refl
+room_of_other (reply.Errors errors version) other = refl
+room_of_other (reply.Subnet controllers members status subnet tier updated version) other = refl
+room_of_other (reply.Traced traced version) other = refl
+room_of_other (reply.Controllers controllers version) other = refl
+room_of_other (reply.Loops segments version) other = refl
+room_of_other (reply.Isolation borders features version) other = refl
+room_of_other (reply.Refused refusal edit version) other = refl

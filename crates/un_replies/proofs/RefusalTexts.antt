@@ -2,7 +2,7 @@
 use Rattle.std.proofs.Common.{◌≡◌, ◌≢◌, ℕ, ◌≤◌, lit≤, List, [], ◌∷◌, ◌++◌, length, codes, decimal, Option, None, Some, true, false, refl, sym, ap, ◌∙◌, append_assoc}
 use Rattle.std.specs.Prelude.{⊤}
 use Rattle.json.specs.Print.{quoted, escape}
-use Rattle.serde_json.specs.Data.{Data, string, Members, no_members, member}
+use Rattle.serde_json.specs.Data.{Data, string}
 use Rattle.serde_json.specs.Written.{compact_text, members_text}
 use Rattle.serde_json.proofs.OnLiterals.{serde_json_on_literals}
 use Rattle.un_schema.specs.Places.{place_text}
@@ -10,12 +10,7 @@ use Rattle.un_defs.specs.declared.refusal.Refusal.{Refusal}
 use Rattle.un_defs.specs.declared.refusal.Refusal.TheVariants as refusal
 use Rattle.un_replies.specs.Values.{count, in_order}
 use Rattle.un_replies.specs.Refusals.{told_of, told_value, refusal_value, tells_version, edit_member, version_member}
-use Rattle.un_replies.specs.Pieces.{leading, following, early, middle, late, last}
-
--- members as they come
-abbrev members_of : List (List ℕ × Data) → Members
-members_of [] = no_members
-members_of (m ∷ ms) = member m.0 m.1 (members_of ms)
+use Rattle.un_replies.specs.Pieces.{members_of, leading, following, early, middle, late, last}
 
 -- the members of a refusal in their order
 abbrev row : Refusal → Option ℕ → ℕ → List (List ℕ × Data)

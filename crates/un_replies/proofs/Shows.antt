@@ -1,23 +1,30 @@
 -- Values that are written as tokens.
-use Rattle.std.proofs.Common.{◌≡◌, ◌<◌, ◌^◌, ℕ, ℤ, pos, negsuc, zero, suc, ◌+◌, ◌/◌, ◌%◌, ◌≤◌, cond, ◌==◌, false, List, [], ◌∷◌, ◌++◌, length, get_or, drop, Some, option_and_then, decimal, refl, ap, sym, ◌∙◌, append_assoc, append-nil, arith}
+use Rattle.std.proofs.Common.{◌≡◌, ◌<◌, ◌^◌, ℕ, ℤ, pos, negsuc, zero, suc, ◌+◌, ◌/◌, ◌%◌, ◌≤◌, cond, ◌==◌, false, List, [], ◌∷◌, ◌++◌, length, get_or, drop, map, Some, Result, Ok, Err, OnOk, option_and_then, decimal, refl, ap, sym, ◌∙◌, append_assoc, append-nil, arith}
 use Rattle.std.specs.Fmt.{signed_decimal}
 use Rattle.std.proofs.lemmas.Bool.{ne_eqb, le-leb, and_from}
 use Rattle.std.proofs.lemmas.List.{drop_all}
 use Rattle.std.proofs.lemmas.Fmt.{decimal_is_IsNumeral_wide, decimal_digit, decimal_by_steps_wide}
 use Rattle.std.proofs.lemmas.Str.Parse.{digit_at}
-use Rattle.std.specs.List.{prefix_len}
+use Rattle.std.specs.List.{prefix_len, AllByRecursion}
+use Rattle.std.specs.List.Sorted.{IsStrictlySortedBy}
+use Rattle.std.specs.declared.cmp.Ordering.TheVariants.{Less}
+use Rattle.std.specs.Ordering.{nat_cmp}
+use Rattle.std.specs.Cmp.Lexicographic.{slice_cmp}
 use Rattle.std.specs.Char.{is_ascii_digit}
 use lib.Signed.{mag}
 use Rattle.json.specs.Token.{Token, number}
-use Rattle.json.specs.Tree.{json_tokens, items_tokens}
+use Rattle.json.specs.Tree.{json_tokens, items_tokens, members_tokens}
 use Rattle.json.specs.Word.{head, after_whole, after_fraction, after_exponent, after_number}
-use Rattle.json.specs.Print.{IsNumber}
-use Rattle.serde_json.specs.Data.{Data}
+use Rattle.json.specs.Print.{IsNumber, print}
+use Rattle.serde_json.proofs.Texts.{print-outline}
+use Rattle.serde_json.specs.Data.{Data, member, put}
 use Rattle.serde_json.specs.Find.{of_integer}
-use Rattle.serde_json.specs.Written.{outline, items_outline, number_text}
+use Rattle.serde_json.specs.Written.{compact_text, outline, items_outline, members_outline, number_text}
+use Rattle.un_defs.specs.NamedAttributes.{IsNamedAttrs}
 use Rattle.un_geom.specs.Rectangle.{Rectangle}
-use Rattle.un_replies.specs.Values.{whole, items_of, list}
-use Rattle.un_replies.specs.Replies.{area}
+use Rattle.un_replies.specs.Values.{whole, items_of, list, in_order, object_of}
+use Rattle.un_replies.specs.Replies.{area, attribute}
+use Rattle.un_replies.specs.Pieces.{members_of}
 
 -- a whole number's text is its digits
 whole_text : (z : ℤ) → number_text (of_integer z) ≡ signed_decimal z
@@ -103,3 +110,60 @@ area_steps start a b c d n r sides are one two three four =
     four ∙ three ∙ ap (λ s. b ++ items_tokens (items_outline (items_of whole s))) are
     ∙ ap (λ t. t ++ rest) (two ∙ ap (λ t. t ++ Token.number (decimal n) ∷ []) one)
     ∙ append_assoc (start ++ Token.begin_array ∷ []) (Token.number (decimal n) ∷ []) rest ∙ append_assoc start (Token.begin_array ∷ []) (Token.number (decimal n) ∷ rest)
+
+-- ---- attributes
+
+-- the attributes are written but for these
+pub record AreWrittenBut (start : List Token) (rest all : List (List ℕ × ℤ)) (out : List Token) : Type 0 where
+  pub same : out ++ members_tokens (members_outline (members_of (map attribute rest))) ≡ start ++ members_tokens (members_outline (members_of (map attribute all)))
+
+pub attribute_one : (start : List Token) (x : List ℕ × ℤ) (rest all : List (List ℕ × ℤ)) (out name more : List Token) → AreWrittenBut start (x ∷ rest) all out
+    → name ≡ out ++ Token.key x.0 ∷ [] → more ≡ name ++ json_tokens (outline (whole x.1)) → AreWrittenBut start rest all more
+attribute_one start x rest all out name more h one two =
+    let behind = members_tokens (members_outline (members_of (map attribute rest))) in
+    let value = json_tokens (outline (whole x.1)) in
+    record {
+      same = ap (λ t. t ++ behind) (two ∙ ap (λ t. t ++ value) one) ∙ append_assoc (out ++ Token.key x.0 ∷ []) value behind ∙ append_assoc out (Token.key x.0 ∷ []) (value ++ behind) ∙ h.same;
+    }
+
+pub attribute_all : (start : List Token) (all : List (List ℕ × ℤ)) (out : List Token) → AreWrittenBut start [] all out → out ++ Token.end_object ∷ [] ≡ start ++ members_tokens (members_outline (members_of (map attribute all)))
+attribute_all start all out h = h.same
+
+-- names that rise stand in order already
+put_first : (k : List ℕ) (d : Data) (pairs : List (List ℕ × ℤ)) → AllByRecursion (λ l. slice_cmp nat_cmp k l ≡ Less) (map (λ pair. pair.0) pairs)
+    → put k d (members_of (map attribute pairs)) ≡ member k d (members_of (map attribute pairs))
+put_first k d [] h = refl
+put_first k d (p ∷ ps) h = rw h.0
+
+in_order_rising : (pairs : List (List ℕ × ℤ)) → IsStrictlySortedBy (slice_cmp nat_cmp) (map (λ pair. pair.0) pairs) → in_order (map attribute pairs) ≡ members_of (map attribute pairs)
+unfolding IsStrictlySortedBy
+in_order_rising [] h = refl
+in_order_rising (p ∷ ps) h = ap (put p.0 (whole p.1)) (in_order_rising ps h.1) ∙ put_first p.0 (whole p.1) ps h.0
+
+pub attributes_steps : (start a b c : List Token) (pairs : List (List ℕ × ℤ)) → IsNamedAttrs pairs
+    → a ≡ start ++ Token.begin_object ∷ [] → b ++ Token.end_object ∷ [] ≡ a ++ members_tokens (members_outline (members_of (map attribute pairs))) → c ≡ b ++ Token.end_object ∷ []
+    → c ≡ start ++ json_tokens (outline (object_of (map attribute pairs)))
+attributes_steps start a b c pairs h one two three =
+    three ∙ two ∙ ap (λ t. t ++ members_tokens (members_outline (members_of (map attribute pairs)))) one
+    ∙ append_assoc start (Token.begin_object ∷ []) (members_tokens (members_outline (members_of (map attribute pairs))))
+    ∙ ap (λ ms. start ++ Token.begin_object ∷ members_tokens (members_outline ms)) (sym (in_order_rising pairs h.rising))
+
+-- ---- pieces behind one another
+
+pub piece : (start a end x rest : List Token) → a ≡ start ++ x → end ≡ a ++ rest → end ≡ start ++ (x ++ rest)
+piece start a end x rest first others = others ∙ ap (λ t. t ++ rest) first ∙ append_assoc start x rest
+
+pub on_ok : {E : Type 0} (r : Result (Unit {0}) E) (P Q : Type 0) → OnOk r P → (P → Q) → OnOk r Q
+on_ok (Ok u) P Q h f = f h
+on_ok (Err e) P Q h f = h
+
+-- an object that begins with two values, and what comes behind them
+pub two_lists : (start a end c m rest : List Token) (k l : List ℕ) → a ≡ start ++ Token.begin_object ∷ Token.key k ∷ (c ++ Token.key l ∷ m) → end ≡ a ++ rest
+    → end ≡ start ++ Token.begin_object ∷ Token.key k ∷ (c ++ Token.key l ∷ (m ++ rest))
+two_lists start a end c m rest k l first others =
+    others ∙ ap (λ t. t ++ rest) first ∙ append_assoc start (Token.begin_object ∷ Token.key k ∷ (c ++ Token.key l ∷ m)) rest
+    ∙ ap (λ t. start ++ Token.begin_object ∷ Token.key k ∷ t) (append_assoc c (Token.key l ∷ m) rest)
+
+-- the tokens of a value are printed as its compact text
+pub text_of : (d : Data) (ts : List Token) → ts ≡ [] ++ json_tokens (outline d) → print ts ≡ compact_text d
+text_of d ts e = ap print e ∙ print-outline d

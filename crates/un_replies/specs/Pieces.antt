@@ -1,13 +1,18 @@
 -- The parts of a refusal's text, for private clauses.
 use Rattle.std.specs.Prelude.{ℕ, List, [], ◌∷◌, ◌++◌, codes}
 use Rattle.json.specs.Print.{quoted}
-use Rattle.serde_json.specs.Data.{Data, string}
+use Rattle.serde_json.specs.Data.{Data, string, Members, no_members, member}
 use Rattle.serde_json.specs.Written.{compact_text}
 use Rattle.un_schema.specs.Places.{place_text}
 use Rattle.un_defs.specs.declared.refusal.Refusal.{Refusal}
 use Rattle.un_defs.specs.declared.refusal.Refusal.TheVariants as refusal
 use Rattle.un_replies.specs.Values.{count}
 use Rattle.un_replies.specs.Refusals.{limit_text}
+
+-- members as they come
+abbrev pub members_of : List (List ℕ × Data) → Members
+members_of [] = no_members
+members_of (m ∷ ms) = member m.0 m.1 (members_of ms)
 
 -- members with a comma behind each, and with a comma before each
 abbrev pub leading : List (List ℕ × Data) → List ℕ

@@ -4,7 +4,13 @@
 #![tactic(auto)]
 
 mod command;
+mod feature;
 mod member;
+mod print;
 mod put;
+mod query;
 mod refusal;
 mod shown;
+
+pub use command::{COMMAND_REPLY_ROOM, print_command_reply};
+pub use print::print_reply;

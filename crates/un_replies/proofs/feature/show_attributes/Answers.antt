@@ -1,0 +1,10 @@
+use Rattle.std.proofs.Common.{◌≡◌, ◌++◌, ◌∷◌, []}
+use Rattle.json.specs.Token.{end_object}
+use Rattle.un_replies.proofs.Shows.{on_ok, attributes_steps}
+use Rattle.un_replies.proofs.feature.show_attributes.Goals as goal
+
+pub returns-clause-ok : goal.returns-clause-ok
+returns-clause-ok c =
+    on_ok c.end_object.result (c.end_object.new.self.tokens ≡ c.show_pairs.new.out.tokens ++ end_object ∷ []) _ c.end_object.ensures.ok (λ last.
+    attributes_steps c.args.out.now.tokens c.begin_object.new.self.tokens c.show_pairs.new.out.tokens c.end_object.new.self.tokens c.args.pairs.now c.requires
+    c.in_ok-begin_object.ensures.ok c.in_ok-show_pairs.ensures.ok last)

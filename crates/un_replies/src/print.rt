@@ -1,0 +1,96 @@
+//! Replies as the compact text of their values.
+ghost use Rattle.std.specs.Prelude.{◌≡◌, ◌+◌, ◌<◌, ◌≤◌, ◌++◌, IfOk, OnOk, OnErr, IsTrue, ◌↔◌, vec_len, vec_capacity};
+ghost use Rattle.un_replies.specs.Commands.{IsOfCommand, HasRefusalName, command_room};
+ghost use Rattle.un_replies.specs.Replies.{print};
+
+use crate::command::put_command;
+use crate::put::put;
+use crate::query::show_query;
+use json::Writer;
+use std::alloc::{AllocError, Global};
+use un_ask::Reply;
+
+// Whether the reply is one of a command.
+#[tactic(auto, using(crate::proofs::Commands::other_reply))]
+fn is_of_command(reply: &Reply) -> bool
+    ensures { IsTrue result ↔ IsOfCommand reply.now }
+{
+    matches!(
+        reply,
+        Reply::Edited { .. }
+            | Reply::Batch { .. }
+            | Reply::Ruled { .. }
+            | Reply::Validated { .. }
+            | Reply::Updated { .. }
+            | Reply::Refused { .. }
+    )
+}
+
+// Room for a command's reply and a line's end.
+#[tactic(auto, using(crate::proofs::Commands::room_of_other))]
+fn room_of(reply: &Reply) -> Result<usize, AllocError>
+    ensures { IfOk result (λ room. room ≡ command_room reply.now + 1) }
+{
+    match reply {
+        Reply::Batch { ids, .. } => {
+            let room = ids.as_slice().len().checked_mul(21).ok_or(AllocError)?;
+            room.checked_add(129).ok_or(AllocError)
+        }
+        _ => Ok(513),
+    }
+}
+
+// Adds the text of a command's reply.
+fn add_command(reply: &Reply, out: &mut Vec<u8>) -> Result<(), AllocError>
+    requires command { IsOfCommand reply.now }
+    requires named { HasRefusalName reply.now }
+    ensures ok { OnOk result (out.new.items ≡ out.old.items ++ print reply.now) }
+    ensures room { OnOk result (vec_len out.new < vec_capacity out.new) }
+    ensures err { OnErr result (out.new.items ≡ out.old.items) }
+    ensures capacity { vec_capacity out.old ≤ vec_capacity out.new }
+{
+    let room = room_of(reply)?;
+    out.reserve(room)?;
+    put_command(out, reply);
+    Ok(())
+}
+
+// The text of a query's reply.
+#[tactic(auto, using(crate::proofs::Shows::text_of))]
+fn query_text(alloc: Global, reply: &Reply) -> Result<Vec<u8>, AllocError>
+    requires { ¬ IsOfCommand reply.now }
+    ensures { IfOk result (λ text. text.items ≡ print reply.now) }
+{
+    let mut writer = Writer::new(Vec::new(alloc));
+    show_query(reply, &mut writer)?;
+    Ok(writer.into_inner())
+}
+
+// Adds the text of a query's reply.
+fn add_query(alloc: Global, reply: &Reply, out: &mut Vec<u8>) -> Result<(), AllocError>
+    requires { ¬ IsOfCommand reply.now }
+    ensures ok { OnOk result (out.new.items ≡ out.old.items ++ print reply.now) }
+    ensures room { OnOk result (vec_len out.new < vec_capacity out.new) }
+    ensures err { OnErr result (out.new.items ≡ out.old.items) }
+    ensures capacity { vec_capacity out.old ≤ vec_capacity out.new }
+{
+    let text = query_text(alloc, reply)?;
+    out.reserve(text.len() + 1)?;
+    put(out, text.as_slice());
+    Ok(())
+}
+
+/// Adds the text of a reply, and has room for a line's end behind it. Want of memory changes nothing.
+pub fn print_reply(alloc: Global, reply: &Reply, out: &mut Vec<u8>) -> Result<(), AllocError>
+    requires { HasRefusalName reply.now }
+    ensures ok { OnOk result (out.new.items ≡ out.old.items ++ print reply.now) }
+    ensures room { OnOk result (vec_len out.new < vec_capacity out.new) }
+    ensures err { OnErr result (out.new.items ≡ out.old.items) }
+    ensures capacity { vec_capacity out.old ≤ vec_capacity out.new }
+{
+    if is_of_command(reply) {
+        add_command(reply, out)
+    } else {
+        add_query(alloc, reply, out)
+    }
+}

@@ -1,0 +1,198 @@
+//! The replies of queries.
+ghost use Rattle.std.specs.Prelude.{◌≡◌, [], ◌∷◌, ◌++◌, codes, decimal, OnOk};
+ghost use Rattle.json.specs.Token.{begin_object, end_object, key, string, number};
+ghost use Rattle.json.specs.Tree.{json_tokens};
+ghost use Rattle.serde_json.specs.Written.{outline};
+ghost use Rattle.un_ask.specs.declared.reply.Reply.TheVariants as reply;
+ghost use Rattle.un_replies.specs.Commands.{IsOfCommand};
+ghost use Rattle.un_replies.specs.Replies.{shown, result_value, status_text, port};
+ghost use Rattle.un_replies.specs.Values.{counts, list};
+
+use crate::feature::show_feature;
+use crate::shown::{count_member, list_member, string_member};
+use json::Writer;
+use std::alloc::AllocError;
+use un_ask::results::{Controllers, Parts, Segments};
+use un_ask::{Areas, PlacedErrors, Reply, ResultReply, Status};
+use un_defs::Ids;
+use un_defs::port::Ports;
+use un_schema::Name;
+
+fn show_version(version: u64, out: &mut Writer) -> Result<(), AllocError>
+    ensures ok { OnOk result (out.new.tokens ≡ out.old.tokens ++ json_tokens (outline (shown (reply.Version version)))) }
+    ensures before { out.new.before ≡ out.old.before }
+{
+    out.begin_object()?;
+    string_member("ok", "version", out)?;
+    count_member("version", version, out)?;
+    out.end_object()
+}
+
+fn show_dirty(areas: &Areas, version: u64, out: &mut Writer) -> Result<(), AllocError>
+    ensures ok { OnOk result (out.new.tokens ≡ out.old.tokens ++ json_tokens (outline (shown (reply.Dirty areas.now version)))) }
+    ensures before { out.new.before ≡ out.old.before }
+{
+    out.begin_object()?;
+    list_member("areas", areas.as_slice(), out)?;
+    string_member("ok", "dirty", out)?;
+    count_member("version", version, out)?;
+    out.end_object()
+}
+
+fn show_errors(errors: &PlacedErrors, version: u64, out: &mut Writer) -> Result<(), AllocError>
+    ensures ok { OnOk result (out.new.tokens ≡ out.old.tokens ++ json_tokens (outline (shown (reply.Errors errors.now version)))) }
+    ensures before { out.new.before ≡ out.old.before }
+{
+    out.begin_object()?;
+    list_member("errors", errors.as_slice(), out)?;
+    string_member("ok", "errors", out)?;
+    count_member("version", version, out)?;
+    out.end_object()
+}
+
+fn status_text(status: Status) -> &'static str
+    ensures { result.now ≡ status_text status }
+{
+    match status {
+        Status::Clean => "clean",
+        Status::Dirty => "dirty",
+    }
+}
+
+fn show_result(traced: &ResultReply, version: u64, out: &mut Writer) -> Result<(), AllocError>
+    ensures ok { OnOk result (out.new.tokens
+        ≡ out.old.tokens ++ json_tokens (outline (result_value traced.now version))) }
+    ensures before { out.new.before ≡ out.old.before }
+{
+    out.begin_object()?;
+    list_member("containers", traced.containers.as_slice(), out)?;
+    list_member("content", traced.content.as_slice(), out)?;
+    list_member("features", traced.features.as_slice(), out)?;
+    list_member("functions", traced.functions.as_slice(), out)?;
+    string_member("ok", traced.kind.text(), out)?;
+    list_member("structures", traced.structures.as_slice(), out)?;
+    count_member("version", version, out)?;
+    out.end_object()
+}
+
+fn show_controllers(
+    controllers: &Controllers,
+    version: u64,
+    out: &mut Writer,
+) -> Result<(), AllocError>
+    ensures ok { OnOk result (out.new.tokens ≡ out.old.tokens ++ json_tokens (outline (shown (reply.Controllers controllers.now version)))) }
+    ensures before { out.new.before ≡ out.old.before }
+{
+    out.begin_object()?;
+    list_member("controllers", controllers.as_slice(), out)?;
+    string_member("ok", "controllers", out)?;
+    count_member("version", version, out)?;
+    out.end_object()
+}
+
+fn show_loops(segments: &Segments, version: u64, out: &mut Writer) -> Result<(), AllocError>
+    ensures ok { OnOk result (out.new.tokens ≡ out.old.tokens ++ json_tokens (outline (shown (reply.Loops segments.now version)))) }
+    ensures before { out.new.before ≡ out.old.before }
+{
+    out.begin_object()?;
+    string_member("ok", "loops", out)?;
+    list_member("segments", segments.as_slice(), out)?;
+    count_member("version", version, out)?;
+    out.end_object()
+}
+
+fn show_isolation(
+    borders: &Ports,
+    features: &Parts,
+    version: u64,
+    out: &mut Writer,
+) -> Result<(), AllocError>
+    ensures ok { OnOk result (out.new.tokens
+        ≡ out.old.tokens ++ json_tokens (outline (shown (reply.Isolation borders.now features.now version)))) }
+    ensures before { out.new.before ≡ out.old.before }
+{
+    out.begin_object()?;
+    list_member("borders", borders.as_slice(), out)?;
+    list_member("features", features.as_slice(), out)?;
+    string_member("ok", "isolation", out)?;
+    count_member("version", version, out)?;
+    out.end_object()
+}
+
+// The beginning of a stored subnetwork: what it has, by ids.
+fn show_found(controllers: &Ports, members: &Ids, out: &mut Writer) -> Result<(), AllocError>
+    ensures ok { OnOk result (out.new.tokens ≡ out.old.tokens
+        ++ begin_object ∷ key (codes "controllers") ∷ (json_tokens (outline (list port controllers.now))
+        ++ key (codes "members") ∷ json_tokens (outline (counts members.now)))) }
+    ensures before { out.new.before ≡ out.old.before }
+{
+    out.begin_object()?;
+    list_member("controllers", controllers.as_slice(), out)?;
+    list_member("members", members.as_slice(), out)
+}
+
+// The end of a stored subnetwork: its status, its names and its versions.
+fn show_stored(
+    status: Status,
+    subnet: &Name,
+    tier: &Name,
+    updated: u64,
+    version: u64,
+    out: &mut Writer,
+) -> Result<(), AllocError>
+    ensures ok { OnOk result (out.new.tokens ≡ out.old.tokens
+        ++ key (codes "ok") ∷ string (codes "subnet") ∷ key (codes "status") ∷ string (status_text status)
+        ∷ key (codes "subnet") ∷ string subnet.now ∷ key (codes "tier") ∷ string tier.now
+        ∷ key (codes "updated") ∷ number (decimal updated) ∷ key (codes "version") ∷ number (decimal version) ∷ end_object ∷ []) }
+    ensures before { out.new.before ≡ out.old.before }
+{
+    string_member("ok", "subnet", out)?;
+    string_member("status", status_text(status), out)?;
+    string_member("subnet", subnet.text(), out)?;
+    string_member("tier", tier.text(), out)?;
+    count_member("updated", updated, out)?;
+    count_member("version", version, out)?;
+    out.end_object()
+}
+
+/// Writes the reply of a query.
+#[tactic(auto, using(crate::proofs::Commands::other_query))]
+pub(crate) fn show_query(reply: &Reply, out: &mut Writer) -> Result<(), AllocError>
+    requires { ¬ IsOfCommand reply.now }
+    ensures ok { OnOk result (out.new.tokens ≡ out.old.tokens ++ json_tokens (outline (shown reply.now))) }
+    ensures before { out.new.before ≡ out.old.before }
+{
+    match reply {
+        Reply::Version { version } => show_version(*version, out),
+        Reply::Feature { feature, version } => show_feature(feature, *version, out),
+        Reply::Dirty { areas, version } => show_dirty(areas, *version, out),
+        Reply::Errors { errors, version } => show_errors(errors, *version, out),
+        Reply::Subnet {
+            controllers,
+            members,
+            status,
+            subnet,
+            tier,
+            updated,
+            version,
+        } => {
+            show_found(controllers, members, out)?;
+            show_stored(*status, subnet, tier, *updated, *version, out)
+        }
+        Reply::Traced {
+            result: traced,
+            version,
+        } => show_result(traced, *version, out),
+        Reply::Controllers {
+            controllers,
+            version,
+        } => show_controllers(controllers, *version, out),
+        Reply::Loops { segments, version } => show_loops(segments, *version, out),
+        Reply::Isolation {
+            borders,
+            features,
+            version,
+        } => show_isolation(borders, features, *version, out),
+        _ => Ok(()),
+    }
+}
