@@ -51,7 +51,7 @@ impl Form for Barrier {
 /// The condition that a value is. It calls itself once for each level of the condition, of which a text has at most 127.
 #[cycle(condition)]
 #[tactic(auto, using(crate::proofs::Conditions::of_array, crate::proofs::Conditions::no_array, crate::proofs::Conditions::array_depth))]
-fn read_condition(alloc: Global, value: &Value) -> Result<Option<RawCond>, AllocError>
+pub fn read_condition(alloc: Global, value: &Value) -> Result<Option<RawCond>, AllocError>
     ensures { IfOk result (λ raw. option_map written raw ≡ condition_of (view value.now)) }
 {
     match value.as_array() {

@@ -9,7 +9,7 @@ use std::alloc::{AllocError, Global};
 use un_schema::Place;
 
 /// A form that a member's value may have.
-pub(crate) trait Form {
+pub trait Form {
     ghost use Rattle.std.specs.Prelude.{Option};
     ghost use Rattle.serde_json.specs.Data.{Data};
 
@@ -120,7 +120,7 @@ pub(crate) fn only(object: &Value, places: &[Place]) -> Result<(), ReadFault>
 
 /// Whether some member has another name than these.
 #[tactic(auto, using(crate::proofs::Others::looked_on, crate::proofs::Others::found, crate::proofs::Others::none_found))]
-fn some_other(members: &Map<String, Value>, places: &[Place]) -> bool
+pub fn some_other(members: &Map<String, Value>, places: &[Place]) -> bool
     ensures { result ≡ some_other places.now (members_view members.now.entries) }
 {
     for (name, _) in members.iter() {

@@ -3,16 +3,16 @@
 
 mod attrs;
 mod command;
-mod condition;
+pub mod condition;
 mod edit;
 pub mod fault;
-mod form;
+pub mod form;
 mod include;
-mod list;
+pub mod list;
 mod query;
 pub mod request;
-mod rule;
-mod scalar;
+pub mod rule;
+pub mod scalar;
 #[cfg(test)]
 mod tests;
 mod words;

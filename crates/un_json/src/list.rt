@@ -28,7 +28,7 @@ fn read_items<F: Form>(alloc: Global, values: &[Value]) -> Result<Option<Vec<F::
 }
 
 /// A list of values that have the form.
-pub(crate) fn read_list<F: Form>(
+pub fn read_list<F: Form>(
     alloc: Global,
     value: &Value,
 ) -> Result<Option<Vec<F::Out>>, AllocError>

@@ -28,8 +28,8 @@ pub fn read_request(alloc: Global, text: &[u8]) -> Result<Request, ReadFault>
     read_value(alloc, &value)
 }
 
-// The JSON value that the bytes are.
-fn read_json(alloc: Global, text: &[u8]) -> Result<Value, ReadFault>
+/// The JSON value that the bytes are. It is `NotJson` exactly where they are none in UTF-8.
+pub fn read_json(alloc: Global, text: &[u8]) -> Result<Value, ReadFault>
     ensures ok { IfOk result (λ value. json_of text.now ≡ Some (view value)) }
     ensures err { IfErr result (λ e. e ≢ ReadFault.Memory → (json_of text.now ≡ None) × (e ≡ ReadFault.NotJson)) }
 {

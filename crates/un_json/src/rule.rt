@@ -13,7 +13,7 @@ use std::alloc::{AllocError, Global};
 use un_ask::NamedRule;
 
 /// A rule in one of its five forms.
-pub(crate) struct RuleForm;
+pub struct RuleForm;
 
 impl Form for RuleForm {
     ghost use Rattle.un_json.specs.Forms.{rule_of};

@@ -14,14 +14,14 @@ use un_defs::{Flow, Note};
 const GREATEST_ID: u64 = 9_007_199_254_740_991;
 
 /// A whole number from one to another.
-pub(crate) fn count_from_to(low: u64, high: u64, value: &Value) -> Option<u64>
+pub fn count_from_to(low: u64, high: u64, value: &Value) -> Option<u64>
     ensures { result ≡ count_from_to low high (view value.now) }
 {
     value.as_u64().filter(|n| low <= *n && *n <= high)
 }
 
 /// A whole number from one to another, of which the last is one of 8 bits.
-pub(crate) fn small_from_to(low: u8, high: u8, value: &Value) -> Option<u8>
+pub fn small_from_to(low: u8, high: u8, value: &Value) -> Option<u8>
     ensures { result ≡ count_from_to low high (view value.now) }
 {
     match count_from_to(low as u64, high as u64, value) {

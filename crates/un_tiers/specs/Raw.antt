@@ -1,5 +1,5 @@
 -- Tiers as a schema gives them: the first bad one, and what each stands for.
-use Rattle.std.specs.Prelude.{ℕ, nat_lt, Bool, true, not, ◌&&◌, if◌then◌else◌, List, [], ◌∷◌, ◌++◌, length, Option, Some, None, is_some, option_and_then}
+use Rattle.std.specs.Prelude.{ℕ, nat_lt, Bool, true, not, ◌&&◌, if◌then◌else◌, List, [], ◌∷◌, ◌++◌, length, Option, Some, None, is_some, option_and_then, option_map}
 use Rattle.std.specs.List.{list_any}
 use Rattle.std.specs.Option.{option_map_or}
 use Rattle.un_conds.specs.declared.raw.RawCond.{RawCond}
@@ -11,21 +11,33 @@ use Rattle.un_schema.specs.Names.{is_name}
 use Rattle.un_tiers.specs.declared.raw.RawTier.{RawTier}
 use Rattle.un_tiers.specs.declared.tier.Tier.{Tier}
 
+-- a tier as it is written, whatever holds its condition in memory
+pub record WrittenTier : Type 0 where
+  pub name : List ℕ
+  pub barrier : Option (Condition (List ℕ))
+  pub disjoint : Bool
+
+abbrev pub written_barrier : Option RawCond → Option (Condition (List ℕ))
+written_barrier barrier = option_map written barrier
+
+abbrev pub written_tier : RawTier → WrittenTier
+written_tier tier = record { name = tier.name; barrier = written_barrier tier.barrier; disjoint = tier.disjoint }
+
 -- the barrier by numbers, over the names of attributes and of categories
-abbrev pub barrier_from : List (List ℕ) → List (List ℕ) → Option RawCond → Option (Condition ℕ)
-barrier_from attributes categories barrier = option_and_then (λ c. resolved attributes categories (written c)) barrier
+abbrev pub barrier_from : List (List ℕ) → List (List ℕ) → Option (Condition (List ℕ)) → Option (Condition ℕ)
+barrier_from attributes categories barrier = option_and_then (resolved attributes categories) barrier
 
 -- there is no barrier, or it can be resolved
-abbrev pub resolves : List (List ℕ) → List (List ℕ) → Option RawCond → Bool
-resolves attributes categories barrier = option_map_or (λ c. is_some (resolved attributes categories (written c))) barrier true
+abbrev pub resolves : List (List ℕ) → List (List ℕ) → Option (Condition (List ℕ)) → Bool
+resolves attributes categories barrier = option_map_or (λ c. is_some (resolved attributes categories c)) barrier true
 
 -- the tier can stand after those before it: there are fewer than 16, and none has its name, which has the form of one
-abbrev pub is_good : List (List ℕ) → List (List ℕ) → List Tier → RawTier → Bool
+abbrev pub is_good : List (List ℕ) → List (List ℕ) → List Tier → WrittenTier → Bool
 is_good attributes categories before tier =
     nat_lt (length before) 16 && not (list_any (λ other. same_text tier.name other.name) before) && is_name tier.name
     && resolves attributes categories tier.barrier
 
-abbrev pub tier_from : List (List ℕ) → List (List ℕ) → RawTier → Tier
+abbrev pub tier_from : List (List ℕ) → List (List ℕ) → WrittenTier → Tier
 tier_from attributes categories tier = record {
   name = tier.name;
   barrier = barrier_from attributes categories tier.barrier;
@@ -33,7 +45,7 @@ tier_from attributes categories tier = record {
 }
 
 -- the place of the first tier that cannot stand after those before it, some of which are kept already
-abbrev pub first_bad : List (List ℕ) → List (List ℕ) → List Tier → List RawTier → Option ℕ
+abbrev pub first_bad : List (List ℕ) → List (List ℕ) → List Tier → List WrittenTier → Option ℕ
 first_bad attributes categories before [] = None
 first_bad attributes categories before (tier ∷ tiers) =
     if is_good attributes categories before tier

@@ -1,7 +1,7 @@
 ghost use Rattle.std.specs.Prelude.{◌≡◌, ◌<◌, true, false, length, map, IfOk, OnOk, OnErr, IfErr, IsErrOf, if◌then◌else◌};
 ghost use Rattle.std.specs.List.{list_any};
 ghost use Rattle.un_conds.specs.Names.{same_text};
-ghost use Rattle.un_tiers.specs.Raw.{barrier_from, resolves, is_good, tier_from};
+ghost use Rattle.un_tiers.specs.Raw.{written_barrier, written_tier, barrier_from, resolves, is_good, tier_from};
 ghost use Rattle.un_tiers.specs.Faults.{OnBadTier};
 
 use crate::fault::TierFault;
@@ -26,9 +26,10 @@ fn own_barrier<N: Names>(
     raw: &Option<RawCond>,
     names: &N,
 ) -> Result<Option<Cond>, CondFault>
-    ensures ok { IfOk result (λ barrier. barrier ≡ barrier_from (N.attributes names.now) (N.categories names.now) raw.now) }
-    ensures good { OnOk result (resolves (N.attributes names.now) (N.categories names.now) raw.now ≡ true) }
-    ensures bad { IsErrOf result CondFault.BadCondition → resolves (N.attributes names.now) (N.categories names.now) raw.now ≡ false }
+    ensures ok { IfOk result (λ barrier. barrier ≡ barrier_from (N.attributes names.now) (N.categories names.now) (written_barrier raw.now)) }
+    ensures good { OnOk result (resolves (N.attributes names.now) (N.categories names.now) (written_barrier raw.now) ≡ true) }
+    ensures bad { IsErrOf result CondFault.BadCondition
+        → resolves (N.attributes names.now) (N.categories names.now) (written_barrier raw.now) ≡ false }
 {
     match raw {
         Some(cond) => match Cond::resolve(alloc, cond, names) {
@@ -53,10 +54,10 @@ pub(crate) fn own_tier<N: Names>(
     before: &[Tier],
     names: &N,
 ) -> Result<Tier, TierFault>
-    ensures ok { IfOk result (λ tier. tier ≡ tier_from (N.attributes names.now) (N.categories names.now) raw.now) }
-    ensures good { OnOk result (is_good (N.attributes names.now) (N.categories names.now) before.now raw.now ≡ true) }
+    ensures ok { IfOk result (λ tier. tier ≡ tier_from (N.attributes names.now) (N.categories names.now) (written_tier raw.now)) }
+    ensures good { OnOk result (is_good (N.attributes names.now) (N.categories names.now) before.now (written_tier raw.now) ≡ true) }
     ensures bad { IfErr result (λ fault. OnBadTier fault (λ place.
-        (place ≡ length before.now) × (is_good (N.attributes names.now) (N.categories names.now) before.now raw.now ≡ false))) }
+        (place ≡ length before.now) × (is_good (N.attributes names.now) (N.categories names.now) before.now (written_tier raw.now) ≡ false))) }
 {
     let bad = TierFault::BadTier {
         place: before.len(),

@@ -1,5 +1,5 @@
 use Rattle.std.proofs.Common.{◌≡◌, [], map, take, drop}
-use Rattle.un_tiers.specs.Raw.{tier_from, first_bad}
+use Rattle.un_tiers.specs.Raw.{written_tier, tier_from, first_bad}
 use Rattle.un_tiers.specs.Lists.{IsTierList}
 use Rattle.un_tiers.proofs.tiers.Tiers.new.Given as goal
 
@@ -9,7 +9,7 @@ invariant-loop-tier g l =
     let attributes = g.N.Names.attributes l.names in
     let categories = g.N.Names.categories l.names in
     record {
-      kept : l.tiers.items ≡ map (tier_from attributes categories) (take l.tier-index l.raw);
-      first : first_bad attributes categories [] l.raw ≡ first_bad attributes categories l.tiers.items (drop l.tier-index l.raw);
+      kept : l.tiers.items ≡ map (tier_from attributes categories) (map written_tier (take l.tier-index l.raw));
+      first : first_bad attributes categories [] (map written_tier l.raw) ≡ first_bad attributes categories l.tiers.items (map written_tier (drop l.tier-index l.raw));
       list : IsTierList l.tiers.items;
     }
