@@ -15,3 +15,4 @@ pub mod Listed
 pub mod Inserted
 pub mod Pointed
 pub mod Rebuilt
+pub mod Applying

@@ -7,3 +7,4 @@ pub mod Walked
 pub mod Listed
 pub mod Held
 pub mod Refusals
+pub mod Commands
