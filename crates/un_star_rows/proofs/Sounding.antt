@@ -1,5 +1,5 @@
 -- A network in lists is sound.
-use Rattle.std.proofs.Common.{◌≡◌, ℕ, zero, suc, ◌<◌, ◌≤◌, ◌==◌, Bool, true, false, ◌||◌, List, [], ◌∷◌, length, filter, find, All, IsSome, Option, Some, None, refl, sym, ap, subst, ◌∙◌, arith, eqb-true, option_to_list}
+use Rattle.std.proofs.Common.{◌≡◌, ℕ, zero, suc, ◌<◌, ◌≤◌, ◌==◌, Bool, true, false, ◌||◌, List, [], ◌∷◌, length, find, All, IsSome, Option, Some, None, refl, sym, ap, subst, ◌∙◌, arith, eqb-true, option_to_list}
 use Rattle.std.specs.Prelude.{slice_get}
 use Rattle.std.proofs.lemmas.List.FromFn.{length-map-range_with_len, get_or-map-range_with_len}
 use Rattle.std.proofs.lemmas.Option.{slice_get_within, get_or_from_slice_get}
@@ -10,7 +10,6 @@ use Rattle.un_defs.specs.declared.assoc.Controller.{Controller}
 use Rattle.un_defs.specs.Orders.{rising}
 use Rattle.un_defs.specs.Features.{by_id, is_end_of}
 use Rattle.un_defs.specs.Sound.{FitsKind, HasEnds, IsLiveJoint, IsSound}
-use Rattle.un_defs.proofs.Rising.{Among}
 use Rattle.un_defs.proofs.Unique.{from_find, from_all}
 use Rattle.un_defs.proofs.ListLemmas.{filter-none}
 use Rattle.un_star_rows.specs.Lists.{IsNumbered, row_id, association_id, only, features_of, at_number, touching_at, touching_of}

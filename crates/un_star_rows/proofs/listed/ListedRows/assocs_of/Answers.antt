@@ -1,5 +1,5 @@
-use Rattle.std.proofs.Common.{◌≡◌, Some, None, length, ap, sym, ◌∙◌}
-use Rattle.un_star_rows.specs.Lists.{at_number, touching_of}
+use Rattle.std.proofs.Common.{length, ap, sym, ◌∙◌}
+use Rattle.un_star_rows.specs.Lists.{at_number}
 use Rattle.un_star_rows.proofs.Sounding.{none_stands, stands_under}
 use Rattle.un_star_rows.proofs.listed.ListedRows.assocs_of.Goals as goal
 
