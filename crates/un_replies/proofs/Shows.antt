@@ -167,3 +167,8 @@ two_lists start a end c m rest k l first others =
 -- the tokens of a value are printed as its compact text
 pub text_of : (d : Data) (ts : List Token) → ts ≡ [] ++ json_tokens (outline d) → print ts ≡ compact_text d
 text_of d ts e = ap print e ∙ print-outline d
+
+-- a single attribute
+pub one_named : (pairs : List (List ℕ × ℤ)) (pair : List ℕ × ℤ) → pairs ≡ pair ∷ [] → IsNamedAttrs pairs
+unfolding IsStrictlySortedBy
+one_named pairs pair is = rw is (record { rising = (tt, tt) })

@@ -14,3 +14,6 @@ mod shown;
 
 pub use command::{COMMAND_REPLY_ROOM, print_command_reply};
 pub use print::print_reply;
+
+#[cfg(test)]
+mod tests;
