@@ -1,11 +1,11 @@
 -- Texts of which no byte is escaped.
-use Rattle.std.proofs.Common.{◌≡◌, ℕ, ◌≤◌, ◌<◌, Bool, true, false, List, [], ◌∷◌, ◌++◌, refl, ap, ap₂, sym, ◌∙◌, arith, length, lit≤}
-use Rattle.std.proofs.lemmas.Bool.{true≢false, and_parts, agree_below_at}
+use Rattle.std.proofs.Common.{◌≡◌, ℕ, ◌≤◌, ◌<◌, Bool, true, false, List, [], ◌∷◌, ◌++◌, refl, ap, ap₂, sym, ◌∙◌, arith, length, lit≤, Option, Some, None, if◌then◌else◌}
+use Rattle.std.proofs.lemmas.Bool.{true≢false, leb-true, and_parts, agree_below_at}
 use Rattle.std.specs.List.{list_all}
 use Rattle.json.specs.Print.{escape, escape_byte, quoted}
 use Rattle.json.proofs.Printed.Strings.{escape_byte_plain}
 use Rattle.serde_json.proofs.OnLiterals.{serde_json_on_literals}
-use Rattle.un_schema.specs.Names.{IsName, is_name_byte}
+use Rattle.un_schema.specs.Names.{IsName, is_name, is_name_byte}
 use Rattle.un_schema.specs.Places.{place_text}
 use Rattle.un_schema.specs.declared.place.Place.{Place}
 use Rattle.un_schema.specs.declared.place.Place.TheVariants as place
@@ -184,3 +184,15 @@ edit_text_short word.Attach = lit≤ tt
 edit_text_short word.Detach = lit≤ tt
 edit_text_short word.Controller = lit≤ tt
 edit_text_short word.Uncontroller = lit≤ tt
+
+-- a name that was made has the form of a name
+pub name_made : (t n : List ℕ) → Some n ≡ (if is_name t then Some t else None) → IsName n
+name_made t n e = go (is_name t) refl e
+  where
+    go : (b : Bool) → is_name t ≡ b → Some n ≡ (if b then Some t else None) → IsName n
+    go false named e = let no : ⊥ = cc in absurd no
+    go true named e =
+        let same : n ≡ t = cc in
+        let parts = and_parts _ _ named in
+        let lengths = and_parts _ _ parts.0 in
+        rw same (record { some = leb-true 1 (length t) lengths.0; short = leb-true (length t) 32 lengths.1; bytes = parts.1 })

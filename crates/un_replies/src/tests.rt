@@ -1,5 +1,6 @@
 //! One text for each refusal and each reply.
-ghost use Rattle.std.specs.Prelude.{◌≡◌, [], ◌∷◌};
+ghost use Rattle.std.specs.Prelude.{◌≡◌, [], ◌∷◌, IfOk};
+ghost use Rattle.un_schema.specs.Names.{IsName};
 ghost use Rattle.un_ask.specs.declared.reply.Reply.TheVariants.{Edited};
 ghost use Rattle.un_replies.specs.Commands.{HasRefusalName};
 
@@ -23,9 +24,14 @@ fn gives(alloc: Global, reply: &Reply, text: &[u8]) -> bool
     print_reply(alloc, reply, &mut out).is_ok() && out.as_slice() == text
 }
 
-fn name(alloc: Global, text: &str) -> Result<Name, Fail> {
-    let name = Name::new(String::from_str(alloc, text)?).ok_or("no name")?;
-    Ok(name)
+#[tactic(auto, using(crate::proofs::Plain::name_made))]
+fn name(alloc: Global, text: &str) -> Result<Name, Fail>
+    ensures { IfOk result (λ name. IsName name) }
+{
+    match Name::new(String::from_str(alloc, text)?) {
+        Some(name) => Ok(name),
+        None => Err("no name".into()),
+    }
 }
 
 fn edited(word: EditWord) -> Reply

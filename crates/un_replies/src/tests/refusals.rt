@@ -1,7 +1,8 @@
 ghost use Rattle.un_replies.specs.Commands.{HasName};
 
-use super::gives;
+use super::{gives, name};
 use std::alloc::Global;
+use std::test::Fail;
 use un_ask::Reply;
 use un_defs::{Limit, Refusal};
 use un_schema::Place;
@@ -274,4 +275,36 @@ fn a_batch_tells_the_place_of_the_edit(rt: HostRuntime) {
         ),
     ];
     assert_eq!(rt; printed, [true; 3]);
+}
+
+#[test]
+fn refusals_that_carry_a_name(rt: HostRuntime) -> Result<(), Fail> {
+    let alloc = rt.alloc();
+    let kind = name(alloc, "pipe")?;
+    let attribute = name(alloc, "length")?;
+    let subnet = name(alloc, "south")?;
+    let conflict = Refusal::Conflict {
+        subnet,
+        feature: 4,
+        port: 1,
+    };
+    let printed = [
+        refused(
+            alloc,
+            Refusal::NoSuchKind { kind },
+            b"{\"error\":13,\"kind\":\"pipe\",\"name\":\"NoSuchKind\",\"version\":7}",
+        ),
+        refused(
+            alloc,
+            Refusal::BadAttribute { attribute },
+            b"{\"attribute\":\"length\",\"error\":14,\"name\":\"BadAttribute\",\"version\":7}",
+        ),
+        refused(
+            alloc,
+            conflict,
+            b"{\"error\":28,\"feature\":4,\"name\":\"Conflict\",\"port\":1,\"subnet\":\"south\",\"version\":7}",
+        ),
+    ];
+    assert_eq!(rt; printed, [true; 3]);
+    Ok(())
 }
