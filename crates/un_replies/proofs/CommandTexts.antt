@@ -1,13 +1,11 @@
 -- The texts of the replies of commands, put together of their members.
-use Rattle.std.proofs.Common.{◌≡◌, ◌≢◌, ℕ, List, [], ◌∷◌, ◌++◌, codes, Option, refl, ap, sym, ◌∙◌, append_assoc, append-nil}
+use Rattle.std.proofs.Common.{◌≡◌, ℕ, List, [], ◌∷◌, ◌++◌, codes, Option, ap, ◌∙◌, append_assoc, append-nil}
 use Rattle.json.specs.Print.{quoted}
 use Rattle.serde_json.specs.Data.{Data, string, object, member, no_members}
 use Rattle.serde_json.specs.Written.{compact_text}
-use Rattle.serde_json.proofs.OnLiterals.{serde_json_on_literals}
 use Rattle.un_ask.specs.Words.{edit_text}
 use Rattle.un_ask.specs.declared.word.EditWord.{EditWord}
 use Rattle.un_ask.specs.declared.stored.StoredSubnet.{StoredSubnet}
-use Rattle.un_ask.specs.declared.reply.Reply.{Reply}
 use Rattle.un_ask.specs.declared.reply.Reply.TheVariants as reply
 use Rattle.un_replies.specs.Values.{count, counts}
 use Rattle.un_replies.specs.Pieces.{following, opening}

@@ -1,5 +1,5 @@
 -- What holds of the replies of commands.
-use Rattle.std.proofs.Common.{◌≡◌, ◌≢◌, ℕ, ◌+◌, ◌*◌, ◌≤◌, List, length, Option, refl, arith}
+use Rattle.std.proofs.Common.{◌≡◌, ◌≢◌, ℕ, ◌≤◌, List, Option, refl, arith}
 use Rattle.un_geom.specs.declared.point.Point.{Point}
 use Rattle.un_geom.specs.Rectangle.{Rectangle}
 use Rattle.un_defs.specs.declared.port.Port.{Port}

@@ -1,5 +1,5 @@
 -- Texts of which no byte is escaped.
-use Rattle.std.proofs.Common.{◌≡◌, ℕ, ◌≤◌, ◌<◌, Bool, true, false, List, [], ◌∷◌, ◌++◌, refl, ap, ap₂, sym, ◌∙◌, arith, length, lit≤, Option, Some, None, if◌then◌else◌}
+use Rattle.std.proofs.Common.{◌≡◌, ℕ, ◌≤◌, ◌<◌, Bool, true, false, List, [], ◌∷◌, ◌++◌, refl, ap, ap₂, sym, ◌∙◌, arith, length, lit≤, Some, None, if◌then◌else◌}
 use Rattle.std.proofs.lemmas.Bool.{true≢false, leb-true, and_parts, agree_below_at}
 use Rattle.std.specs.List.{list_all}
 use Rattle.json.specs.Print.{escape, escape_byte, quoted}

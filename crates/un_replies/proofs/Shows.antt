@@ -1,5 +1,5 @@
 -- Values that are written as tokens.
-use Rattle.std.proofs.Common.{◌≡◌, ◌<◌, ◌^◌, ℕ, ℤ, pos, negsuc, zero, suc, ◌+◌, ◌/◌, ◌%◌, ◌≤◌, cond, ◌==◌, false, List, [], ◌∷◌, ◌++◌, length, get_or, drop, map, Some, Result, Ok, Err, OnOk, option_and_then, decimal, refl, ap, sym, ◌∙◌, append_assoc, append-nil, arith}
+use Rattle.std.proofs.Common.{◌≡◌, ◌<◌, ◌^◌, ℕ, ℤ, pos, negsuc, zero, suc, ◌+◌, ◌/◌, ◌%◌, ◌≤◌, cond, ◌==◌, false, List, [], ◌∷◌, ◌++◌, length, get_or, drop, map, Some, Result, Ok, Err, OnOk, option_and_then, decimal, refl, ap, sym, ◌∙◌, append_assoc, arith}
 use Rattle.std.specs.Fmt.{signed_decimal}
 use Rattle.std.proofs.lemmas.Bool.{ne_eqb, le-leb, and_from}
 use Rattle.std.proofs.lemmas.List.{drop_all}

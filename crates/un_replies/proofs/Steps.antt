@@ -1,5 +1,5 @@
 -- Pieces that are put behind one another.
-use Rattle.std.proofs.Common.{◌≡◌, ℕ, Bool, true, false, List, [], ◌∷◌, ◌++◌, codes, decimal, refl, ap, sym, append_assoc, append-nil, ◌∙◌}
+use Rattle.std.proofs.Common.{◌≡◌, ℕ, Bool, true, false, List, [], ◌∷◌, ◌++◌, codes, decimal, ap, sym, append_assoc, append-nil, ◌∙◌}
 use Rattle.serde_json.specs.Written.{compact_text, items_text, comma_if}
 use Rattle.json.specs.Print.{quoted}
 use Rattle.serde_json.specs.Data.{Data}
