@@ -28,10 +28,7 @@ fn read_items<F: Form>(alloc: Global, values: &[Value]) -> Result<Option<Vec<F::
 }
 
 /// A list of values that have the form.
-pub fn read_list<F: Form>(
-    alloc: Global,
-    value: &Value,
-) -> Result<Option<Vec<F::Out>>, AllocError>
+pub fn read_list<F: Form>(alloc: Global, value: &Value) -> Result<Option<Vec<F::Out>>, AllocError>
     ensures { IfOk result
         (λ items. option_map (λ v. v.items) items ≡ list_of F.form (view value.now)) }
 {
