@@ -1,3 +1,4 @@
+pub mod Asked
 pub mod NextIds
 pub mod Covered
 pub mod LookUps

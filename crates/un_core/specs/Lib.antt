@@ -8,3 +8,4 @@ pub mod Listed
 pub mod Held
 pub mod Refusals
 pub mod Commands
+pub mod Answers

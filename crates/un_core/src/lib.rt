@@ -1,12 +1,15 @@
 //! The state of a network: what commands do to it, and what queries answer of it.
 #![tactic(auto)]
 
+pub mod answer;
 pub mod apply;
 mod insert;
+mod kept;
 pub mod laws;
 mod live;
 pub mod net;
 mod points;
+mod starts;
 pub mod validate;
 
 pub use apply::Applied;

@@ -1,0 +1,62 @@
+-- The starts of a trace, and what it reaches over the topology that is kept.
+use Rattle.std.proofs.Common.{◌≡◌, ℕ, zero, suc, ◌+◌, ◌<◌, ◌==◌, ◌&&◌, arith, nat_le, nat_lt, Bool, true, false, cond, List, [], ◌∷◌, ◌++◌, map, take, drop, length, get_or, Some, None, unwrap_or, ◌⊎◌, inl, inr, refl, sym, ap, ◌∙◌}
+use Rattle.std.specs.List.{list_any, range_with_len, cons_option}
+use Rattle.std.specs.Map.{lookup}
+use Rattle.std.proofs.lemmas.List.{take_more}
+use Rattle.std.proofs.lemmas.List.Elements.{filter_map-append}
+use Rattle.std.proofs.Math.Seq.{drop-cons}
+use Rattle.un_geom.specs.declared.point.Point.{Point}
+use Rattle.un_geom.specs.Places.{same_point}
+use Rattle.un_defs.specs.declared.port.Port.{Port}
+use Rattle.un_defs.specs.declared.port.Node.{Node}
+use Rattle.un_defs.specs.declared.star.Star.{Star}
+use Rattle.un_defs.specs.Star.{empty_star}
+use Rattle.un_defs.proofs.Rising.{Among}
+use Rattle.un_defs.proofs.Unique.{point_same}
+use Rattle.un_store.specs.Refusals.{first_due}
+use Rattle.un_index.specs.Kept.{stars_of}
+use Rattle.un_ask.specs.declared.typed.TypedAsk.{TypedAsk}
+use Rattle.un_ask.specs.declared.reply.Reply.{Reply}
+use Rattle.un_trace.specs.Told.{IsAnswer, told, mode_of}
+use Rattle.un_core.specs.State.{State, kept_ground}
+use Rattle.un_core.specs.Answers.{start_node, start_nodes, start_due, starts_due, traced_kept}
+use Rattle.un_core.proofs.Grounds.{reached_here}
+
+-- a number stands in a range
+pub stands_in_range : (a len n : ℕ) → list_any (λ k. k == n) (range_with_len a len) ≡ (nat_le a n && nat_lt n (a + len))
+stands_in_range a zero n = grind arith
+stands_in_range a (suc len) n = grind (arith, stands_in_range (a + 1) len n)
+
+-- the nodes of one start more
+pub one_start_more : (s : State) (starts : List Port) (i : ℕ) (d : Port) (n : Node) → i < length starts → start_node s (get_or starts i d) ≡ Some n
+    → start_nodes s (take i starts) ++ n ∷ [] ≡ start_nodes s (take (i + 1) starts)
+one_start_more s starts i d n l e =
+    ap (λ o. start_nodes s (take i starts) ++ cons_option o []) (sym e)
+    ∙ sym (filter_map-append (start_node s) (take i starts) (get_or starts i d ∷ []))
+    ∙ ap (start_nodes s) (sym (take_more starts i d l))
+
+-- what is due of the starts from a place on, where none is due of the one there
+pub due_further : (s : State) (starts : List Port) (i : ℕ) (d : Port) → i < length starts → start_due s (get_or starts i d) ≡ None
+    → starts_due s (drop i starts) ≡ starts_due s (drop (i + 1) starts)
+due_further s starts i d l e =
+    let next : suc i ≡ i + 1 = omega arith in
+    ap (starts_due s) (drop-cons starts i d l)
+    ∙ ap (λ o. first_due (o ∷ map (start_due s) (drop (suc i) starts))) e
+    ∙ ap (λ k. starts_due s (drop k starts)) next
+
+-- a star is kept at each point that has one
+kept_points : (kept : List (Point × Star)) (p : Point) → Among (map (λ pair. pair.0) kept) p ⊎ (stars_of kept p ≡ empty_star)
+kept_points [] p = inr refl
+kept_points (pair ∷ kept) p = go (same_point p pair.0) refl (kept_points kept p)
+  where
+    go : (b : Bool) → same_point p pair.0 ≡ b → Among (map (λ pair. pair.0) kept) p ⊎ (stars_of kept p ≡ empty_star)
+        → Among (pair.0 ∷ map (λ pair. pair.0) kept) p ⊎ (unwrap_or (cond b (Some pair.1) (lookup (same_point p) kept)) empty_star ≡ empty_star)
+    go true e rest = inl (inl (sym (point_same p pair.0 e)))
+    go false e rest = elim rest [ inl i ↦ inl (inr i) | inr none ↦ inr none ]
+
+-- the answer of a trace over what is kept is the one that is told of the list of reached nodes
+pub answer_kept : (s : State) (ask : TypedAsk) (reply : Reply) → IsAnswer (kept_ground s) ask reply → reply ≡ traced_kept s ask
+answer_kept s ask reply is =
+    is.is
+    ∙ ap (told (kept_ground s) ask)
+    (reached_here (kept_ground s) (map (λ pair. pair.0) s.kept) (kept_points s.kept) ask.barriers (mode_of ask.kind) ask.starts is.reached is.reach)

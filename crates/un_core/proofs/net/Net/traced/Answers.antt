@@ -1,0 +1,20 @@
+use Rattle.std.proofs.Common.{◌≡◌, None, OnOk, IfOk, sym, ap, subst, ◌∙◌}
+use Rattle.std.specs.Option.{option_map_or}
+use Rattle.un_core.specs.Answers.{refused, starts_due, start_nodes, at_version, connected_from, traced_kept}
+use Rattle.un_core.proofs.net.Net.traced.Goals as goal
+
+pub returns : goal.returns
+returns g c =
+    let s = c.args.self.now in
+    let ask = c.args.ask.now in
+    let given = c.as_slice.ensures in
+    let due : starts_due s ask.starts ≡ None =
+    ap (starts_due s) (sym given) ∙ subst (λ r. OnOk r (starts_due s c.as_slice.result.now ≡ None)) c.in-Ok.is c.in_ok-starts.ensures.good in
+    let nodes : c.in-Ok.starts.items ≡ start_nodes s ask.starts =
+    subst (λ r. IfOk r (λ nodes. nodes.items ≡ start_nodes s c.as_slice.result.now)) c.in-Ok.is c.in_ok-starts.ensures.nodes ∙ ap (start_nodes s) given in
+    let told : c.in_ok-told.told ≡ traced_kept s (connected_from ask (start_nodes s ask.starts)) =
+    c.in_ok-told.ensures ∙ ap (traced_kept s) (c.in_ok-typed.ensures ∙ ap (connected_from ask) nodes) in
+    let version = ap (λ t. t.version) c.self.view_is in
+    c.at_version.ensures
+    ∙ (λ i. at_version (version i) (told i))
+    ∙ ap (λ o. option_map_or (refused s) o (at_version s.version (traced_kept s (connected_from ask (start_nodes s ask.starts))))) (sym due)

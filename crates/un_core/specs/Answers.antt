@@ -1,0 +1,167 @@
+-- What a query is answered.
+use Rattle.std.specs.Prelude.{ℕ, ◌==◌, nat_lt, not, Bool, true, false, List, [], ◌∷◌, map, filter_map, length, flat_map, Option, None, Some, is_some, option_and_then, if◌then◌else◌}
+use Rattle.std.specs.List.{list_any}
+use Rattle.std.specs.Option.{option_map_or}
+use Rattle.un_schema.specs.declared.place.Place.{Place}
+use Rattle.un_schema.specs.declared.place.Place.TheVariants as place
+use Rattle.un_defs.specs.declared.port.Port.{Port}
+use Rattle.un_defs.specs.declared.port.Node.{Node}
+use Rattle.un_defs.specs.declared.row.Row.{Row}
+use Rattle.un_defs.specs.declared.walk.Barriers.{Barriers}
+use Rattle.un_defs.specs.declared.refusal.Refusal.{Refusal}
+use Rattle.un_defs.specs.declared.refusal.Refusal.TheVariants as refusal
+use Rattle.un_defs.specs.Features.{row}
+use Rattle.un_defs.specs.Ports.{port_numbers_of, node_of}
+use Rattle.un_store.specs.Refusals.{first_due, due_if}
+use Rattle.un_points.specs.PointMaps.{covered}
+use Rattle.un_index.specs.Kept.{errors_of}
+use Rattle.un_ask.specs.declared.trace.TraceKind.{TraceKind}
+use Rattle.un_ask.specs.declared.trace.TraceKind.TheVariants as kind
+use Rattle.un_ask.specs.declared.trace.TraceAsk.{TraceAsk}
+use Rattle.un_ask.specs.declared.typed.TypedAsk.{TypedAsk}
+use Rattle.un_ask.specs.declared.query.Query.{Query}
+use Rattle.un_ask.specs.declared.query.Asked.{Asked}
+use Rattle.un_ask.specs.declared.query.Asked.TheVariants.{Version, Feature, Dirty, Errors, Subnet, Trace}
+use Rattle.un_ask.specs.declared.reply.Reply.{Reply}
+use Rattle.un_ask.specs.declared.reply.Reply.TheVariants as reply
+use Rattle.un_trace.specs.Told.{told, mode_of}
+use Rattle.un_core.specs.State.{State, kept_ground}
+use Rattle.un_core.specs.Validation.{met}
+use Rattle.un_core.specs.Walked.{reached}
+
+-- ---- what is taken
+
+abbrev pub is_connected : TraceKind → Bool
+is_connected kind.Connected = true
+is_connected kind.Subnetwork = false
+is_connected kind.Controllers = false
+is_connected kind.Upstream = false
+is_connected kind.Downstream = false
+is_connected kind.Loops = false
+is_connected kind.Isolation = false
+
+-- the request is refused for what lies at the place, where the test holds
+abbrev pub bad_if : Bool → Place → Option Refusal
+bad_if test place = due_if test (refusal.BadRequest place)
+
+-- of traces only connected ones are answered, and these without a tier, a subnetwork, isolators, barriers or functions
+abbrev pub untaken_member : TraceAsk → Option Refusal
+untaken_member ask = first_due
+    (bad_if (not (is_connected ask.kind)) place.Ask
+    ∷ bad_if (is_some ask.tier) place.Tier
+    ∷ bad_if (is_some ask.subnet) place.Subnet
+    ∷ bad_if (is_some ask.isolators) place.Isolators
+    ∷ bad_if (is_some ask.barriers) place.Barriers
+    ∷ bad_if (not (length ask.functions == 0)) place.Functions
+    ∷ [])
+
+-- what is asked is not answered
+abbrev pub untaken : Asked → Option Refusal
+untaken Version = None
+untaken (Feature id) = Some (refusal.BadRequest place.Ask)
+untaken (Dirty extent) = None
+untaken (Errors extent) = None
+untaken (Subnet tier subnet) = Some (refusal.BadRequest place.Ask)
+untaken (Trace ask) = untaken_member ask
+
+-- the query wants a later version
+abbrev pub too_early : State → ℕ → Option Refusal
+too_early s seen = due_if (nat_lt s.version seen) (refusal.Ahead seen s.version)
+
+-- the first refusal of a query
+abbrev pub query_due : State → Query → Option Refusal
+query_due s q = first_due (untaken q.what ∷ too_early s q.seen ∷ [])
+
+-- ---- the starts of a trace
+
+-- the row has a port with the number
+abbrev pub has_port : Row → ℕ → Bool
+has_port r number = list_any (λ n. n == number) (port_numbers_of r)
+
+-- the node of the row's port with the number, if it has one
+abbrev pub port_node : Row → ℕ → Option Node
+port_node r number = if has_port r number then node_of r number else None
+
+-- the node of a port of a live row, at the port's place in the row now
+abbrev pub start_node : State → Port → Option Node
+start_node s q = option_and_then (λ r. port_node r q.number) (row s.features q.feature)
+
+-- no live row has the port
+abbrev pub start_due : State → Port → Option Refusal
+start_due s q = first_due
+    (due_if (not (is_some (row s.features q.feature))) (refusal.NoSuchFeature q.feature)
+    ∷ due_if (not (is_some (start_node s q))) (refusal.NoStart q.feature q.number)
+    ∷ [])
+
+-- the refusal of the first start that is none
+abbrev pub starts_due : State → List Port → Option Refusal
+starts_due s starts = first_due (map (start_due s) starts)
+
+abbrev pub start_nodes : State → List Port → List Node
+start_nodes s starts = filter_map (start_node s) starts
+
+-- ---- replies
+
+abbrev pub refused : State → Refusal → Reply
+refused s r = reply.Refused r None s.version
+
+-- where a walk stops: at the stops, and at dirty ground in consistent mode
+abbrev pub barriers_of : TraceAsk → Barriers
+barriers_of ask = record { request = None; of_tier = None; stops = ask.stops; tier = None; consistent = ask.consistent }
+
+-- the connected trace from these nodes
+abbrev pub connected_from : TraceAsk → List Node → TypedAsk
+connected_from ask starts = record {
+  kind = kind.Connected;
+  starts = starts;
+  barriers = barriers_of ask;
+  isolators = None;
+  subnet = None;
+  disjoint = false;
+  include = ask.include;
+  functions = [];
+}
+
+-- what a walk of the trace reaches over what is kept
+abbrev pub reached_kept : State → TypedAsk → List Node
+reached_kept s ask = reached (kept_ground s) (map (λ pair. pair.0) s.kept) ask.barriers (mode_of ask.kind) ask.starts
+
+-- what a trace answers, with the version of the state
+abbrev pub at_version : ℕ → Reply → Reply
+at_version v (reply.Traced result version) = reply.Traced result v
+at_version v (reply.Controllers controllers version) = reply.Controllers controllers v
+at_version v (reply.Loops segments version) = reply.Loops segments v
+at_version v (reply.Isolation borders features version) = reply.Isolation borders features v
+at_version v (reply.Refused r edit version) = reply.Refused r edit v
+at_version v (reply.Edited areas id word version) = reply.Edited areas id word version
+at_version v (reply.Batch areas ids version) = reply.Batch areas ids version
+at_version v (reply.Ruled areas rules version) = reply.Ruled areas rules version
+at_version v (reply.Validated cleared errors version) = reply.Validated cleared errors version
+at_version v (reply.Updated row version) = reply.Updated row version
+at_version v (reply.Version version) = reply.Version version
+at_version v (reply.Feature feature version) = reply.Feature feature version
+at_version v (reply.Dirty areas version) = reply.Dirty areas version
+at_version v (reply.Errors errors version) = reply.Errors errors version
+at_version v (reply.Subnet controllers members status subnet tier updated version) = reply.Subnet controllers members status subnet tier updated version
+
+-- the answer of a trace over what is kept, with version 0
+abbrev pub traced_kept : State → TypedAsk → Reply
+traced_kept s ask = told (kept_ground s) ask (reached_kept s ask)
+
+-- the answer of a connected trace
+abbrev pub traced : State → TraceAsk → Reply
+traced s ask = option_map_or (refused s) (starts_due s ask.starts)
+    (at_version s.version (traced_kept s (connected_from ask (start_nodes s ask.starts))))
+
+-- the answer of a query that is not refused before
+abbrev pub asked : State → Asked → Reply
+asked s Version = reply.Version s.version
+asked s (Feature id) = refused s (refusal.BadRequest place.Ask)
+asked s (Dirty extent) = reply.Dirty (met extent s.areas) s.version
+asked s (Errors extent) = reply.Errors (flat_map errors_of (covered extent s.kept)) s.version
+asked s (Subnet tier subnet) = refused s (refusal.BadRequest place.Ask)
+asked s (Trace ask) = traced s ask
+
+-- what a query is answered
+abbrev pub answer : State → Query → Reply
+answer s q = option_map_or (refused s) (query_due s q) (asked s q.what)
