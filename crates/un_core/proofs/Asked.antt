@@ -45,7 +45,7 @@ due_further s starts i d l e =
     ∙ ap (λ k. starts_due s (drop k starts)) next
 
 -- a star is kept at each point that has one
-kept_points : (kept : List (Point × Star)) (p : Point) → Among (map (λ pair. pair.0) kept) p ⊎ (stars_of kept p ≡ empty_star)
+pub kept_points : (kept : List (Point × Star)) (p : Point) → Among (map (λ pair. pair.0) kept) p ⊎ (stars_of kept p ≡ empty_star)
 kept_points [] p = inr refl
 kept_points (pair ∷ kept) p = go (same_point p pair.0) refl (kept_points kept p)
   where

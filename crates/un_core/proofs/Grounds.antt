@@ -78,8 +78,12 @@ module _ (G : Ground) (points : List Point) (has : HasPoints G points) (B : Barr
             | inr none ↦ absurd (subst (λ star. Among star.spots s) none there)
           ]
 
+  -- the list has what walks reach
+  pub reached_reaches : (starts : List Node) → IsReach (leads G B mode) starts (reached G points B mode starts)
+  reached_reaches starts = reached_is_reach (leads G B mode) (flat_map (linked_at G) points) starts named
+
   pub reached_here : (starts nodes : List Node) → IsReach (leads G B mode) starts nodes → nodes ≡ reached G points B mode starts
-  reached_here starts nodes is = reach_unique (leads G B mode) starts nodes (reached G points B mode starts) is (reached_is_reach (leads G B mode) (flat_map (linked_at G) points) starts named)
+  reached_here starts nodes is = reach_unique (leads G B mode) starts nodes (reached G points B mode starts) is (reached_reaches starts)
 
 -- ---- all features
 

@@ -1,4 +1,6 @@
 pub mod Asked
+pub mod SameTold
+pub mod Traces
 pub mod NextIds
 pub mod Covered
 pub mod LookUps

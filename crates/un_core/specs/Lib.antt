@@ -9,3 +9,4 @@ pub mod Held
 pub mod Refusals
 pub mod Commands
 pub mod Answers
+pub mod Traces

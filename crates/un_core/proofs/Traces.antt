@@ -1,0 +1,113 @@
+-- Traces over what is kept answer as over all features in consistent mode, and as the history tells in either.
+use Rattle.std.proofs.Common.{◌≡◌, ℕ, Bool, true, false, not, List, [], ◌∷◌, map, filter, find, flat_map, slice_get, Option, None, Some, refl, sym, ap, subst, ◌∙◌, true≢false, inl, inr, IsTrue, if◌then◌else◌, option_and_then}
+use Rattle.std.specs.declared.cmp.Ordering.{Ordering}
+use Rattle.std.specs.List.{list_any}
+use Rattle.std.specs.BTreeSet.{insert_key}
+use Rattle.std.specs.Option.{option_map}
+use Rattle.un_geom.specs.Rectangle.{Rectangle}
+use Rattle.un_geom.specs.Places.{covers}
+use Rattle.un_schema.specs.Catalog.{Catalog}
+use Rattle.un_defs.specs.declared.port.Port.{Port}
+use Rattle.un_defs.specs.declared.port.Node.{Node}
+use Rattle.un_defs.specs.declared.walk.Dirt.{Dirt}
+use Rattle.un_defs.specs.Orders.{rising, least, port_cmp, same_port}
+use Rattle.un_defs.specs.Ground.{Ground, fresh_ground, entry, is_dirty}
+use Rattle.un_defs.specs.Reach.{IsReach, leads, dirt, area_cmp, areas_over, ports_under}
+use Rattle.un_defs.specs.Star.{standing_points}
+use Rattle.un_defs.proofs.Rising.{Among, among_from-rising, among-insert_key}
+use Rattle.un_defs.proofs.Members.{among-map, among-filter, among_from-filter, among_from_list_any, list_any_from_among}
+use Rattle.un_ask.specs.declared.typed.TypedAsk.{TypedAsk}
+use Rattle.un_ask.specs.declared.reply.Reply.{Reply}
+use Rattle.un_trace.specs.Told.{told, told_over, told_clean, mode_of}
+use Rattle.un_core.specs.State.{State, kept_ground}
+use Rattle.un_core.specs.Step.{Event}
+use Rattle.un_core.specs.History.{after_all, history_ground}
+use Rattle.un_core.specs.Cover.{IsState, MayAllHappen}
+use Rattle.un_core.specs.Answers.{reached_kept, traced_kept}
+use Rattle.un_core.specs.Traces.{FreshTraceLaw, HistoryTraceLaw}
+use Rattle.un_core.proofs.Asked.{kept_points}
+use Rattle.un_core.proofs.Grounds.{reached_reaches, reached_fresh, reached_told, same_ground}
+use Rattle.un_core.proofs.HistoryKept.{kept_is_history}
+use Rattle.un_core.proofs.SameTold.{told_agrees}
+
+-- ---- dirt
+
+module _ {A : Type 0} (cmp : A → A → Ordering) where
+  one_inserted : (ys : List A) (k : A) → (z : A) × Among (insert_key cmp ys k) z
+  one_inserted [] k = (k, inl refl)
+  one_inserted (y ∷ ys) k = (y, among-insert_key cmp (y ∷ ys) k y (inl refl))
+
+  first_of : (xs : List A) (x : A) → Among xs x → (z : A) × (slice_get xs 0 ≡ Some z) × Among xs z
+  first_of [] x h = absurd h
+  first_of (y ∷ ys) x h = (y, refl, inl refl)
+
+  -- a list with an element has a least one
+  least_there : (xs : List A) (x : A) → Among xs x → (z : A) × (least cmp xs ≡ Some z) × Among xs z
+  least_there [] x h = absurd h
+  least_there (y ∷ ys) x h =
+      let one = one_inserted (rising cmp ys) y in
+      let first = first_of (rising cmp (y ∷ ys)) one.0 one.1 in
+      (first.0, first.1, among_from-rising cmp (y ∷ ys) first.0 first.2)
+
+-- nodes of which one is dirty have dirt
+dirt_there : (G : Ground) (nodes : List Node) (n : Node) → Among nodes n → is_dirty G n.at ≡ true → (d : Dirt) × (dirt G nodes ≡ Some d)
+dirt_there G nodes n h dirty =
+    let over = among_from_list_any (λ area. covers area.1 n.at) G.areas dirty in
+    let area = least_there area_cmp (areas_over G nodes) over.0
+    (among-filter (λ area. list_any (λ n. covers area.1 n.at) nodes) G.areas over.0 over.1 (list_any_from_among (λ n. covers (over.0).1 n.at) nodes n h over.2)) in
+    let under = among_from_list_any (λ n. covers (area.0).1 n.at) nodes (among_from-filter (λ area. list_any (λ n. covers area.1 n.at) nodes) G.areas area.0 area.2).1 in
+    let port = least_there port_cmp (ports_under area.0 nodes) (under.0).port
+    (among-map (λ n. n.port) (filter (λ n. covers (area.0).1 n.at) nodes) under.0 (among-filter (λ n. covers (area.0).1 n.at) nodes under.0 under.1 under.2)) in (
+      record { area = (area.0).0; port = port.0 },
+      ap (option_and_then (λ area. option_map (λ q. record { area = area.0; port = q }) (least port_cmp (ports_under area nodes)))) area.1
+          ∙ ap (option_map (λ q. record { area = (area.0).0; port = q })) port.1,
+    )
+
+no_dirt : (G : Ground) (nodes : List Node) → dirt G nodes ≡ None → (n : Node) → Among nodes n → is_dirty G n.at ≡ false
+no_dirt G nodes none n h = go (is_dirty G n.at) refl
+  where
+    none_some : (d : Dirt) → None ≡ Some d → ⊥
+    none_some d e = cc
+
+    go : (b : Bool) → is_dirty G n.at ≡ b → b ≡ false
+    go true e = let there = dirt_there G nodes n h e in absurd (none_some there.0 (sym none ∙ there.1))
+    go false e = refl
+
+-- ---- what is kept
+
+kept_reach : (s : State) (ask : TypedAsk) → IsReach (leads (kept_ground s) ask.barriers (mode_of ask.kind)) ask.starts (reached_kept s ask)
+kept_reach s ask = reached_reaches (kept_ground s) (map (λ pair. pair.0) s.kept) (kept_points s.kept) ask.barriers (mode_of ask.kind) ask.starts
+
+module _ (s : State) (ask : TypedAsk) where
+  abbrev K : Ground
+  K = kept_ground s
+
+  abbrev H : Ground
+  H = fresh_ground s.catalog s.features s.areas
+
+  abbrev nodes : List Node
+  nodes = reached_kept s ask
+
+  same_entry : IsState s → dirt K nodes ≡ None → (n : Node) → Among nodes n → entry K n ≡ entry H n
+  same_entry is none n h = ap (λ star. find (λ s. same_port s.port n.port) star.spots) (is.cover n.at (no_dirt K nodes none n h))
+
+  dirt_given : (G : Ground) (o : Option Dirt) → IsTrue ask.barriers.consistent → dirt G nodes ≡ o → told G ask nodes ≡ told_over o G ask nodes
+  dirt_given G o consistent e =
+      (λ i. told_over (if consistent i then dirt G nodes else None) G ask nodes) ∙ ap (λ o. told_over o G ask nodes) e
+
+  told_same : IsState s → IsTrue ask.barriers.consistent → (o : Option Dirt) → dirt K nodes ≡ o → told K ask nodes ≡ told H ask nodes
+  told_same is consistent (Some d) e = dirt_given K (Some d) consistent e ∙ sym (dirt_given H (Some d) consistent e)
+  told_same is consistent None e =
+      dirt_given K None consistent e ∙ told_agrees K H ask nodes (same_entry is e) ∙ sym (dirt_given H None consistent e)
+
+pub fresh_trace : FreshTraceLaw
+fresh_trace s ask is consistent =
+    told_same s ask is consistent (dirt (kept_ground s) (reached_kept s ask)) refl
+    ∙ ap (told (fresh_ground s.catalog s.features s.areas) ask)
+    (reached_fresh s is ask.barriers (mode_of ask.kind) consistent ask.starts (reached_kept s ask) (kept_reach s ask))
+
+pub history_trace : HistoryTraceLaw
+history_trace S history ask may =
+    let is_told = kept_is_history S history may in
+    let nodes = reached_told S history may is_told ask.barriers (mode_of ask.kind) ask.starts (reached_kept (after_all S history) ask) (kept_reach (after_all S history) ask) in
+    λ i. told (same_ground S history is_told i) ask (nodes i)
