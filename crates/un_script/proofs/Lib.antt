@@ -1,6 +1,4 @@
-pub mod Values
 pub mod Texts
-pub mod Listings
-pub mod Inserts
 pub mod Words
+pub mod Commands
 pub mod Refusals

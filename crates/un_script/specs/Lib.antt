@@ -1,7 +1,5 @@
-pub mod Ask
-pub mod Print
-pub mod State
-pub mod Step
 pub mod Script
+pub mod Told
 pub mod OneLine
+pub mod Telling
 pub mod Replies

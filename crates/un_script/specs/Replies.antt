@@ -1,18 +1,19 @@
 -- Each reply of a script is one line, and none tells of want of memory.
-use Rattle.std.proofs.Common.{◌≡◌, ◌≢◌, ℕ, List, [], ◌∷◌, ◌<◌, ap, lit<, refl, arith}
+use Rattle.std.proofs.Common.{◌≡◌, ◌≢◌, ℕ, List, [], ◌∷◌, ◌<◌, Option, None, Some, ap, lit<, refl, arith}
 use Rattle.serde_json.proofs.OnLiterals.{serde_json_on_literals}
-use Rattle.un_geom.specs.Rectangle.{Rectangle}
-use Rattle.un_lines.specs.Cut.{NoLineEnd}
+use Rattle.un_defs.specs.declared.refusal.Refusal.{Refusal}
+use Rattle.un_defs.specs.declared.refusal.Refusal.TheVariants as refusal
+use Rattle.un_ask.specs.declared.reply.Reply.{Reply}
+use Rattle.un_ask.specs.declared.reply.Reply.TheVariants as reply
 use Rattle.un_lines.specs.Rules.{IsPlain, memory_line}
-use Rattle.un_script.specs.declared.request.Request.TheVariants.{Insert, Dirty}
-use Rattle.un_script.specs.declared.reply.Reply.{Reply}
-use Rattle.un_script.specs.declared.reply.Reply.TheVariants.{Inserted, BadShape, UsedUp, NotJson, BadRequest}
-use Rattle.un_script.specs.Ask.{Asked, no_json, no_request, asks, ask}
-use Rattle.un_script.specs.Print.{print, print_listing, value_of, listing_value, line_too_long, bad_schema}
-use Rattle.un_script.specs.State.{State}
-use Rattle.un_script.specs.Step.{insert, reply_of, areas_meeting}
-use Rattle.un_script.specs.Script.{script, reply_to_asked}
+use Rattle.un_json.specs.Requests.{ask}
+use Rattle.un_schema_json.specs.Lines.{schema_of}
+use Rattle.un_schema.specs.declared.place.Place.TheVariants as place
+use Rattle.un_replies.specs.Replies.{print, shown}
+use Rattle.un_script.specs.Told.{IsTold}
+use Rattle.un_script.specs.Script.{script, bad_schema, bad_place, line_too_long, reply_to}
 use Rattle.un_script.specs.OneLine.{text_line}
+use Rattle.un_script.specs.Telling.{line_told}
 
 -- the byte behind the first two
 abbrev third : List ℕ → ℕ
@@ -23,37 +24,117 @@ third (a ∷ b ∷ c ∷ rest) = c
 
 -- a text with another third byte is no line that tells of want of memory
 other_third : (text : List ℕ) (byte : ℕ) → third text ≡ byte → byte < 109 → text ≢ memory_line
-other_third text byte is low e = let h : third text ≡ 109 = ap third e in omega arith
+other_third text byte is differs e = let h : third text ≡ 109 = ap third e in omega arith
 
-print_other : (reply : Reply) → print reply ≢ memory_line
+above_third : (text : List ℕ) (byte : ℕ) → third text ≡ byte → 109 < byte → text ≢ memory_line
+above_third text byte is high e = let h : third text ≡ 109 = ap third e in omega arith
+
+-- the byte behind the first five
+abbrev sixth : List ℕ → ℕ
+sixth [] = 0
+sixth (a ∷ []) = 0
+sixth (a ∷ b ∷ []) = 0
+sixth (a ∷ b ∷ c ∷ []) = 0
+sixth (a ∷ b ∷ c ∷ d ∷ []) = 0
+sixth (a ∷ b ∷ c ∷ d ∷ e ∷ []) = 0
+sixth (a ∷ b ∷ c ∷ d ∷ e ∷ f ∷ rest) = f
+
+other_sixth : (text : List ℕ) (byte : ℕ) → sixth text ≡ byte → byte < 111 → text ≢ memory_line
+other_sixth text byte is low e = let h : sixth text ≡ 111 = ap sixth e in omega arith
+
+refusal_other : (r : Refusal) (edit : Option ℕ) (version : ℕ) → r ≢ refusal.Memory → print (reply.Refused r edit version) ≢ memory_line
 unfolding serde_json_on_literals
-print_other (Inserted area id version) = other_third _ 97 refl (lit< tt)
-print_other (BadShape place version) = other_third _ 101 refl (lit< tt)
-print_other (UsedUp version) = other_third _ 101 refl (lit< tt)
-print_other NotJson = other_third _ 101 refl (lit< tt)
-print_other BadRequest = other_third _ 101 refl (lit< tt)
+refusal_other refusal.NotJson None version told = other_third _ _ refl (lit< tt)
+refusal_other refusal.NotJson (Some edit) version told = other_third _ _ refl (lit< tt)
+refusal_other (refusal.BadRequest place) None version told = other_third _ _ refl (lit< tt)
+refusal_other (refusal.BadRequest place) (Some edit) version told = other_third _ _ refl (lit< tt)
+refusal_other refusal.LineTooLong None version told = other_third _ _ refl (lit< tt)
+refusal_other refusal.LineTooLong (Some edit) version told = other_third _ _ refl (lit< tt)
+refusal_other (refusal.BadSchema place) None version told = other_third _ _ refl (lit< tt)
+refusal_other (refusal.BadSchema place) (Some edit) version told = other_third _ _ refl (lit< tt)
+refusal_other (refusal.NoSuchFeature id) None version told = other_third _ _ refl (lit< tt)
+refusal_other (refusal.NoSuchFeature id) (Some edit) version told = other_third _ _ refl (lit< tt)
+refusal_other (refusal.Moved at) None version told = other_third _ _ refl (lit< tt)
+refusal_other (refusal.Moved at) (Some edit) version told = other_third _ _ refl (lit< tt)
+refusal_other (refusal.BadShape place) None version told = other_third _ _ refl (lit< tt)
+refusal_other (refusal.BadShape place) (Some edit) version told = other_third _ _ refl (lit< tt)
+refusal_other (refusal.NoSuchKind kind) None version told = other_third _ _ refl (lit< tt)
+refusal_other (refusal.NoSuchKind kind) (Some edit) version told = other_third _ _ refl (lit< tt)
+refusal_other (refusal.BadAttribute attribute) None version told = other_third _ _ refl (lit< tt)
+refusal_other (refusal.BadAttribute attribute) (Some edit) version told = other_third _ _ refl (lit< tt)
+refusal_other (refusal.BadTerminal feature) None version told = other_third _ _ refl (lit< tt)
+refusal_other (refusal.BadTerminal feature) (Some edit) version told = other_third _ _ refl (lit< tt)
+refusal_other refusal.BadPath None version told = other_third _ _ refl (lit< tt)
+refusal_other refusal.BadPath (Some edit) version told = other_third _ _ refl (lit< tt)
+refusal_other (refusal.HasAssociations least) None version told = other_third _ _ refl (lit< tt)
+refusal_other (refusal.HasAssociations least) (Some edit) version told = other_third _ _ refl (lit< tt)
+refusal_other refusal.HasControllers None version told = other_third _ _ refl (lit< tt)
+refusal_other refusal.HasControllers (Some edit) version told = other_third _ _ refl (lit< tt)
+refusal_other refusal.NoSuchAssociation None version told = other_third _ _ refl (lit< tt)
+refusal_other refusal.NoSuchAssociation (Some edit) version told = other_third _ _ refl (lit< tt)
+refusal_other refusal.WrongKind None version told = other_third _ _ refl (lit< tt)
+refusal_other refusal.WrongKind (Some edit) version told = other_third _ _ refl (lit< tt)
+refusal_other (refusal.AlreadyContained by) None version told = other_third _ _ refl (lit< tt)
+refusal_other (refusal.AlreadyContained by) (Some edit) version told = other_third _ _ refl (lit< tt)
+refusal_other refusal.ContainsItself None version told = other_third _ _ refl (lit< tt)
+refusal_other refusal.ContainsItself (Some edit) version told = other_third _ _ refl (lit< tt)
+refusal_other refusal.NoSuchTier None version told = other_third _ _ refl (lit< tt)
+refusal_other refusal.NoSuchTier (Some edit) version told = other_third _ _ refl (lit< tt)
+refusal_other refusal.NotController None version told = other_third _ _ refl (lit< tt)
+refusal_other refusal.NotController (Some edit) version told = other_third _ _ refl (lit< tt)
+refusal_other refusal.ControllerExists None version told = other_third _ _ refl (lit< tt)
+refusal_other refusal.ControllerExists (Some edit) version told = other_third _ _ refl (lit< tt)
+refusal_other refusal.NoSuchController None version told = other_third _ _ refl (lit< tt)
+refusal_other refusal.NoSuchController (Some edit) version told = other_third _ _ refl (lit< tt)
+refusal_other refusal.NoSuchSubnetwork None version told = other_third _ _ refl (lit< tt)
+refusal_other refusal.NoSuchSubnetwork (Some edit) version told = other_third _ _ refl (lit< tt)
+refusal_other (refusal.Conflict subnet feature port) None version told = other_third _ _ refl (lit< tt)
+refusal_other (refusal.Conflict subnet feature port) (Some edit) version told = other_third _ _ refl (lit< tt)
+refusal_other (refusal.Disjoint feature port) None version told = other_third _ _ refl (lit< tt)
+refusal_other (refusal.Disjoint feature port) (Some edit) version told = other_third _ _ refl (lit< tt)
+refusal_other (refusal.Full what) None version told = other_third _ _ refl (lit< tt)
+refusal_other (refusal.Full what) (Some edit) version told = other_third _ _ refl (lit< tt)
+refusal_other (refusal.Ahead seen latest) None version told = other_third _ _ refl (lit< tt)
+refusal_other (refusal.Ahead seen latest) (Some edit) version told = other_third _ _ refl (lit< tt)
+refusal_other (refusal.NoStart feature port) None version told = other_third _ _ refl (lit< tt)
+refusal_other (refusal.NoStart feature port) (Some edit) version told = other_third _ _ refl (lit< tt)
+refusal_other (refusal.StartIsValve feature terminal) None version told = other_third _ _ refl (lit< tt)
+refusal_other (refusal.StartIsValve feature terminal) (Some edit) version told = other_third _ _ refl (lit< tt)
+refusal_other (refusal.BadCondition place) None version told = other_third _ _ refl (lit< tt)
+refusal_other (refusal.BadCondition place) (Some edit) version told = other_third _ _ refl (lit< tt)
+refusal_other (refusal.DirtyGround area feature port) None version told = other_third _ _ refl (lit< tt)
+refusal_other (refusal.DirtyGround area feature port) (Some edit) version told = other_third _ _ refl (lit< tt)
+refusal_other (refusal.NotIsolable feature terminal) None version told = other_third _ _ refl (lit< tt)
+refusal_other (refusal.NotIsolable feature terminal) (Some edit) version told = other_third _ _ refl (lit< tt)
+refusal_other (refusal.BadRuleTerminal place) None version told = other_third _ _ refl (lit< tt)
+refusal_other (refusal.BadRuleTerminal place) (Some edit) version told = other_third _ _ refl (lit< tt)
+refusal_other (refusal.RuleExists place) None version told = other_third _ _ refl (lit< tt)
+refusal_other (refusal.RuleExists place) (Some edit) version told = other_third _ _ refl (lit< tt)
+refusal_other refusal.Memory edit version told = absurd (told refl)
 
-listing_other : (areas : List (ℕ × Rectangle)) (version : ℕ) → print_listing areas version ≢ memory_line
+reply_other : (r : Reply) → IsTold r → print r ≢ memory_line
 unfolding serde_json_on_literals
-listing_other areas version = other_third _ 97 refl (lit< tt)
-
-reply_line : (s : State) (asked : Asked) → NoLineEnd (reply_to_asked s asked)
-reply_line s no_json = text_line (value_of NotJson)
-reply_line s no_request = text_line (value_of BadRequest)
-reply_line s (asks (Insert kind points)) = text_line (value_of (reply_of (insert s kind points)))
-reply_line s (asks (Dirty extent)) = text_line (listing_value (areas_meeting s extent) s.version)
-
-reply_other : (s : State) (asked : Asked) → reply_to_asked s asked ≢ memory_line
-reply_other s no_json = print_other NotJson
-reply_other s no_request = print_other BadRequest
-reply_other s (asks (Insert kind points)) = print_other (reply_of (insert s kind points))
-reply_other s (asks (Dirty extent)) = listing_other (areas_meeting s extent) s.version
+reply_other (reply.Edited areas id word version) told = other_third _ _ refl (lit< tt)
+reply_other (reply.Batch areas ids version) told = other_third _ _ refl (lit< tt)
+reply_other (reply.Ruled areas rules version) told = other_third _ _ refl (lit< tt)
+reply_other (reply.Validated cleared errors version) told = other_third _ _ refl (lit< tt)
+reply_other (reply.Updated row version) told = other_sixth _ _ refl (lit< tt)
+reply_other (reply.Version version) told = above_third _ _ refl (lit< tt)
+reply_other (reply.Feature feature version) told = other_third _ _ refl (lit< tt)
+reply_other (reply.Dirty areas version) told = other_third _ _ refl (lit< tt)
+reply_other (reply.Errors errors version) told = other_third _ _ refl (lit< tt)
+reply_other (reply.Subnet controllers members status subnet tier updated version) told = other_third _ _ refl (lit< tt)
+reply_other (reply.Traced result version) told = other_third _ _ refl (lit< tt)
+reply_other (reply.Controllers controllers version) told = other_third _ _ refl (lit< tt)
+reply_other (reply.Loops segments version) told = above_third _ _ refl (lit< tt)
+reply_other (reply.Isolation borders features version) told = other_third _ _ refl (lit< tt)
+reply_other (reply.Refused r edit version) told = refusal_other r edit version told
 
 pub script_is_plain : IsPlain script
 script_is_plain = record {
-  refusals = λ line. text_line bad_schema;
-  refusal = text_line bad_schema;
-  replies = λ s line. reply_line s (ask line);
-  too_long = text_line line_too_long;
-  other = λ s line. reply_other s (ask line);
+  refusals = λ line. text_line (shown (bad_schema (bad_place (schema_of line))));
+  refusal = text_line (shown (bad_schema place.Line));
+  replies = λ s line. text_line (shown (reply_to s (ask line)));
+  too_long = text_line (shown line_too_long);
+  other = λ s line. reply_other (reply_to s (ask line)) (line_told s line);
 }

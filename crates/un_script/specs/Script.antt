@@ -1,41 +1,81 @@
 -- What is due for the lines of a script.
-use Rattle.std.specs.Prelude.{◌≡◌, ◌≢◌, ℕ, Bool, false, List, [], ◌∷◌, ◌++◌, None, Some, codes, if◌then◌else◌}
-use Rattle.serde_json.specs.Written.{compact_text}
+use Rattle.std.specs.Prelude.{◌≡◌, ◌≢◌, ℕ, Bool, false, List, [], ◌∷◌, ◌++◌, Option, None, Some, Result, Ok, Err, codes}
 use Rattle.un_lines.specs.Cut.{lines_of}
-use Rattle.un_lines.specs.Rules.{Rules}
-use Rattle.un_lines.specs.Due.{First, Refuses, due, first_of}
-use Rattle.un_script.specs.declared.request.Request.TheVariants.{Insert, Dirty}
-use Rattle.un_script.specs.declared.reply.Reply.TheVariants.{NotJson, BadRequest}
-use Rattle.un_script.specs.Ask.{Asked, no_json, no_request, asks, ask, opens}
-use Rattle.un_script.specs.Print.{print, print_listing, line_too_long, bad_schema}
-use Rattle.un_script.specs.State.{State, start}
-use Rattle.un_script.specs.Step.{insert, reply_of, state_after, areas_meeting}
+use Rattle.un_lines.specs.Rules.{Rules, kind_of}
+use Rattle.un_lines.specs.Due.{First, Refuses, due, first_of, IsRefused}
+use Rattle.un_lines.specs.declared.line.Kind.{Kind}
+use Rattle.un_lines.specs.declared.line.Kind.TheVariants.{TooLong, Blank, Request}
+use Rattle.un_schema.specs.declared.place.Place.{Place}
+use Rattle.un_schema.specs.declared.place.Place.TheVariants as place
+use Rattle.un_schema.specs.Catalog.{Catalog}
+use Rattle.un_tiers.specs.declared.tier.Tier.{Tier}
+use Rattle.un_schema_json.specs.Lines.{schema_of}
+use Rattle.un_defs.specs.declared.refusal.Refusal.TheVariants as refusal
+use Rattle.un_ask.specs.declared.request.Request.{Request as Asked}
+use Rattle.un_ask.specs.declared.request.Request.TheVariants.{Command, Query}
+use Rattle.un_ask.specs.declared.reply.Reply.{Reply}
+use Rattle.un_ask.specs.declared.reply.Reply.TheVariants.{Refused}
+use Rattle.un_json.specs.declared.fault.ReadFault.{ReadFault}
+use Rattle.un_json.specs.declared.fault.ReadFault.TheVariants.{NotJson, BadRequest, Memory}
+use Rattle.un_json.specs.Requests.{ask}
+use Rattle.un_replies.specs.Replies.{print}
+use Rattle.un_core.specs.State.{State, opening}
+use Rattle.un_core.specs.Commands.{command_reply, state_after}
+use Rattle.un_core.specs.Answers.{answer}
+
+-- ---- the first line
+
+-- the state that a schema opens. Its tiers are not looked at.
+abbrev pub opened_by : Result (Catalog × List Tier) Place → Option State
+opened_by (Err place) = None
+opened_by (Ok schema) = Some (opening schema.0)
+
+-- the first place that is bad
+abbrev pub bad_place : Result (Catalog × List Tier) Place → Place
+bad_place (Err place) = place
+bad_place (Ok schema) = place.Whole
+
+-- the refusal of a first line that is no schema
+abbrev pub bad_schema : Place → Reply
+bad_schema place = Refused (refusal.BadSchema place) None 0
+
+-- ---- later lines
+
+-- the refusal of a line that is no request
+abbrev pub fault_reply : ReadFault → Reply
+fault_reply NotJson = Refused refusal.NotJson None 0
+fault_reply (BadRequest place) = Refused (refusal.BadRequest place) None 0
+fault_reply Memory = Refused refusal.Memory None 0
 
 -- the reply to what a line asks
-abbrev pub reply_to_asked : State → Asked → List ℕ
-reply_to_asked s no_json = print NotJson
-reply_to_asked s no_request = print BadRequest
-reply_to_asked s (asks (Insert kind points)) = print (reply_of (insert s kind points))
-reply_to_asked s (asks (Dirty extent)) = print_listing (areas_meeting s extent) s.version
+abbrev pub reply_to : State → Result Asked ReadFault → Reply
+reply_to s (Err fault) = fault_reply fault
+reply_to s (Ok (Command command)) = command_reply s command
+reply_to s (Ok (Query query)) = answer s query
 
 -- the state behind it
-abbrev pub state_behind : State → Asked → State
-state_behind s no_json = s
-state_behind s no_request = s
-state_behind s (asks (Insert kind points)) = state_after s (insert s kind points)
-state_behind s (asks (Dirty extent)) = s
+abbrev pub state_behind : State → Result Asked ReadFault → State
+state_behind s (Err fault) = s
+state_behind s (Ok (Command command)) = state_after s command
+state_behind s (Ok (Query query)) = s
+
+-- the refusal of a later line that is too long
+abbrev pub line_too_long : Reply
+line_too_long = Refused refusal.LineTooLong None 0
+
+-- ---- all lines
 
 -- The first line that isn't blank is the schema, and has no reply. Where it is none, it is refused, and no later line has a
 -- reply. Each later line that isn't blank has one, at the state that the lines before it left.
 abbrev pub script : Rules State
 script = record {
-  opened = λ line. if opens line then Some start else None;
-  refusal = λ line. compact_text bad_schema;
-  refusal_too_long = compact_text bad_schema;
-  refusal_missing = compact_text bad_schema;
-  reply = λ s line. reply_to_asked s (ask line);
+  opened = λ line. opened_by (schema_of line);
+  refusal = λ line. print (bad_schema (bad_place (schema_of line)));
+  refusal_too_long = print (bad_schema place.Line);
+  refusal_missing = print (bad_schema place.Whole);
+  reply = λ s line. print (reply_to s (ask line));
   next = λ s line. state_behind s (ask line);
-  too_long = compact_text line_too_long;
+  too_long = print line_too_long;
 }
 
 -- the one command: the word `script` alone
@@ -52,6 +92,21 @@ pub record IsUnrefused (read out : List ℕ) : Type 0 where
   pub is_due : out ≡ due script read false out
   pub first_is : first_of script (lines_of false read) ≢ Refuses
 
+-- the place of the refusal of the first line that isn't blank; the empty one where there is none
+abbrev pub place_of : Kind → List ℕ → Place → Place
+place_of TooLong line later = place.Line
+place_of Blank line later = later
+place_of Request line later = bad_place (schema_of line)
+
+abbrev pub refused_place : List (List ℕ) → Place
+refused_place [] = place.Whole
+refused_place (line ∷ lines) = place_of (kind_of line) line (refused_place lines)
+
 -- the refusal of a first line, and its line's end
-abbrev pub refusal_line : List ℕ
-refusal_line = compact_text bad_schema ++ 10 ∷ []
+abbrev pub refusal_line : Place → List ℕ
+refusal_line place = print (bad_schema place) ++ 10 ∷ []
+
+-- the refusal of the first line alone is written, or that of a missing one
+pub record IsRefusedAs (rules : Rules State) (read : List ℕ) (left : Option (List ℕ)) (out : List ℕ) : Type 0 where
+  pub refused : IsRefused rules read left out
+  pub alone : out ≡ refusal_line (refused_place (lines_of refused.ended read))

@@ -1,24 +1,44 @@
 //! A network as a handler of lines.
-ghost use Rattle.std.specs.Prelude.{◌≡◌, ℕ, ◌+◌, ◌<◌, ◌≤◌, List, [], ◌∷◌, ◌++◌, OnOk, OnErr, length, vec_len, vec_capacity};
-ghost use Rattle.un_script.specs.Ask.{ask, asks};
-ghost use Rattle.un_script.specs.Print.{print, print_listing, bad_schema};
-ghost use Rattle.serde_json.specs.Written.{compact_text};
-ghost use Rattle.un_script.specs.Script.{reply_to_asked, state_behind};
+//!
+//! The first line is read as a schema, which opens the network; each later line is read as a request. A command gives a reply and,
+//! where it is accepted, the next network, which takes the place of the old one once the reply is printed. A command's reply is
+//! printed into room that is spare, so that want of memory never parts the reply from what was done.
+ghost use Rattle.std.specs.Prelude.{◌≡◌, ◌≢◌, ℕ, ◌+◌, ◌<◌, ◌≤◌, List, [], ◌∷◌, ◌++◌, Some, None, Ok, Err, OnOk, OnErr, length, vec_len, vec_capacity};
+ghost use Rattle.un_schema_json.specs.Lines.{schema_of};
+ghost use Rattle.un_schema.specs.declared.place.Place.TheVariants as place;
+ghost use Rattle.un_ask.specs.declared.request.Request.TheVariants.{Command as OfCommand};
+ghost use Rattle.un_json.specs.Requests.{ask};
+ghost use Rattle.un_replies.specs.Commands.{IsOfCommand, HasRefusalName, HasFewIds};
+ghost use Rattle.un_replies.specs.Replies.{print};
+ghost use Rattle.un_core.specs.Commands.{command_reply, state_after};
+ghost use Rattle.un_core.specs.Answers.{answer};
+ghost use Rattle.un_schema.specs.Names.{IsName};
+ghost use Rattle.un_script.specs.Script.{bad_schema, fault_reply, reply_to, state_behind};
 
-use crate::network::Network;
-use crate::reply::{REPLY_SIZE, Reply, print_listing, print_reply};
-use crate::request::{Misread, Request, is_schema_line, read_request};
 use std::alloc::{AllocError, Global};
-use un_geom::Rect;
+use std::marker::PhantomData;
+use un_ask::{Command, Place, Query, Refusal, Reply, Request};
+use un_core::{Applied, Net};
+use un_json::{ReadFault, read_request};
 use un_lines::{Handler, Opened, REPLY_ROOM};
+use un_replies::{print_command_reply, print_reply};
+use un_schema::Name;
+use un_schema_json::{SchemaFault, read_schema};
+use un_steps::Steps;
 
 /// The refusal of a later line that is too long.
 const LINE_TOO_LONG: &[u8] = b"{\"error\":3,\"name\":\"LineTooLong\"}";
 
+/// The refusal of a first line that is too long.
+const SCHEMA_TOO_LONG: &[u8] = b"{\"error\":6,\"name\":\"BadSchema\",\"place\":\"line\"}";
+
+/// The refusal of an input without a first line.
+const NO_SCHEMA: &[u8] = b"{\"error\":6,\"name\":\"BadSchema\",\"place\":\"\"}";
+
 /// The network, once a schema has opened it.
 #[derive(Drop)]
 pub struct Script {
-    network: Option<Network>,
+    net: Option<Net>,
 }
 
 impl Script {
@@ -26,111 +46,160 @@ impl Script {
 
     /// A script before its first line.
     pub fn new() -> Script
-        ensures { result.network ≡ None }
+        ensures { result.net ≡ None }
     {
-        Script { network: None }
+        Script { net: None }
     }
 }
 
-// Adds a short reply with its line's end.
-fn print_line(reply: Reply, out: &mut Vec<u8>)
-    requires { vec_len out.old + REPLY_ROOM ≤ vec_capacity out.old }
-    ensures text { out.new.items ≡ out.old.items ++ (print reply ++ 10 ∷ []) }
+// Adds the reply of a command, with its line's end. It takes no memory.
+fn print_line(reply: &Reply, out: &mut Vec<u8>)
+    requires command { IsOfCommand reply.now }
+    requires named { HasRefusalName reply.now }
+    requires few { HasFewIds reply.now }
+    requires room { vec_len out.old + REPLY_ROOM ≤ vec_capacity out.old }
+    ensures text { out.new.items ≡ out.old.items ++ (print reply.now ++ 10 ∷ []) }
     ensures capacity { vec_capacity out.old ≤ vec_capacity out.new }
 {
-    print_reply(reply, out);
+    print_command_reply(reply, out);
     let _ = out.push(b'\n');
 }
 
-// Adds a listing with its line's end. Want of memory changes nothing.
-fn print_listing_line(
-    areas: &[(u64, Rect)],
-    version: u64,
-    out: &mut Vec<u8>,
-) -> Result<(), AllocError>
-    ensures ok { OnOk result (out.new.items ≡ out.old.items ++ (print_listing areas.now version ++ 10 ∷ [])) }
+// Adds the reply of a query, with its line's end. Want of memory changes nothing.
+fn print_answer(alloc: Global, reply: &Reply, out: &mut Vec<u8>) -> Result<(), AllocError>
+    requires named { HasRefusalName reply.now }
+    ensures ok { OnOk result (out.new.items ≡ out.old.items ++ (print reply.now ++ 10 ∷ [])) }
     ensures err { OnErr result (out.new.items ≡ out.old.items) }
     ensures capacity { vec_capacity out.old ≤ vec_capacity out.new }
 {
-    print_listing(areas, version, out)?;
+    print_reply(alloc, reply, out)?;
     let _ = out.push(b'\n');
     Ok(())
 }
 
-// The refusal of a first line that is no schema.
-#[tactic(auto, using(crate::proofs::Texts::bad_schema_text))]
-fn bad_schema() -> &'static [u8]
-    ensures text { result.now ≡ compact_text bad_schema }
-    ensures size { length result.now < REPLY_SIZE }
+// A refusal that tells no version.
+fn refused(refusal: Refusal) -> Reply
+    ensures { result ≡ Reply.Refused refusal None 0 }
 {
-    b"{\"error\":6,\"name\":\"BadSchema\",\"place\":\"\"}"
-}
-
-// Adds this refusal with its line's end.
-fn print_bad_schema(out: &mut Vec<u8>)
-    requires { vec_len out.old + REPLY_ROOM ≤ vec_capacity out.old }
-    ensures text { out.new.items ≡ out.old.items ++ (compact_text bad_schema ++ 10 ∷ []) }
-    ensures capacity { vec_capacity out.old ≤ vec_capacity out.new }
-{
-    let _ = out.extend_from_slice(bad_schema());
-    let _ = out.push(b'\n');
-}
-
-// Answers a request. Want of memory changes nothing.
-fn answer_request(
-    alloc: Global,
-    network: &mut Network,
-    request: &Request,
-    out: &mut Vec<u8>,
-) -> Result<(), AllocError>
-    requires { vec_len out.old + REPLY_ROOM ≤ vec_capacity out.old }
-    ensures reply { OnOk result (out.new.items ≡ out.old.items ++ (reply_to_asked network.old (asks request.now) ++ 10 ∷ [])) }
-    ensures state { OnOk result (network.new ≡ state_behind network.old (asks request.now)) }
-    ensures err { OnErr result ((network.new ≡ network.old) × (out.new.items ≡ out.old.items)) }
-    ensures capacity { vec_capacity out.old ≤ vec_capacity out.new }
-{
-    match request {
-        Request::Insert { kind, points } => {
-            let reply = network.insert(alloc, *kind, points.as_slice())?;
-            print_line(reply, out);
-            Ok(())
-        }
-        Request::Dirty { extent } => {
-            let areas = network.areas_meeting(alloc, *extent)?;
-            print_listing_line(areas.as_slice(), network.version(), out)
-        }
+    Reply::Refused {
+        refusal,
+        edit: None,
+        version: 0,
     }
 }
 
-// Answers a line. Want of memory changes nothing.
-fn answer(
+// Adds the refusal of a first line.
+fn print_bad_schema(place: Place, out: &mut Vec<u8>)
+    requires { vec_len out.old + REPLY_ROOM ≤ vec_capacity out.old }
+    ensures text { out.new.items ≡ out.old.items ++ (print (bad_schema place) ++ 10 ∷ []) }
+    ensures capacity { vec_capacity out.old ≤ vec_capacity out.new }
+{
+    print_line(&refused(Refusal::BadSchema { place }), out);
+}
+
+// The name that a refusal carries has the form of a name.
+fn check_name(alloc: Global, name: &Name) -> Result<(), AllocError>
+    ensures { OnOk result (IsName name.now) }
+{
+    match Name::new(String::from_str(alloc, name.text())?) {
+        Some(_) => Ok(()),
+        None => Err(AllocError),
+    }
+}
+
+// The same of the name in a reply.
+fn check_names(alloc: Global, reply: &Reply) -> Result<(), AllocError>
+    ensures { OnOk result (HasRefusalName reply.now) }
+{
+    match reply {
+        Reply::Refused {
+            refusal: Refusal::NoSuchKind { kind },
+            ..
+        } => check_name(alloc, kind),
+        Reply::Refused {
+            refusal: Refusal::BadAttribute { attribute },
+            ..
+        } => check_name(alloc, attribute),
+        Reply::Refused {
+            refusal: Refusal::Conflict { subnet, .. },
+            ..
+        } => check_name(alloc, subnet),
+        _ => Ok(()),
+    }
+}
+
+// Does a command, or refuses it. Want of memory changes nothing.
+fn apply(
     alloc: Global,
-    network: &mut Network,
-    line: &[u8],
+    net: &mut Net,
+    command: &Command,
     out: &mut Vec<u8>,
 ) -> Result<(), AllocError>
+    requires room { vec_len out.old + REPLY_ROOM ≤ vec_capacity out.old }
+    ensures reply { OnOk result (out.new.items ≡ out.old.items ++ (print (command_reply net.old command.now) ++ 10 ∷ [])) }
+    ensures state { OnOk result (net.new ≡ state_after net.old command.now) }
+    ensures err { OnErr result ((net.new ≡ net.old) × (out.new.items ≡ out.old.items)) }
+    ensures capacity { vec_capacity out.old ≤ vec_capacity out.new }
+{
+    match net.apply(alloc, command)? {
+        Applied::Done { net: next, reply } => {
+            print_line(&reply, out);
+            *net = next;
+        }
+        Applied::Refused { reply } => {
+            check_names(alloc, &reply)?;
+            print_line(&reply, out);
+        }
+    }
+    Ok(())
+}
+
+// Answers a query.
+fn tell(alloc: Global, net: &Net, query: &Query, out: &mut Vec<u8>) -> Result<(), AllocError>
+    ensures reply { OnOk result (out.new.items ≡ out.old.items ++ (print (answer net.now query.now) ++ 10 ∷ [])) }
+    ensures err { OnErr result (out.new.items ≡ out.old.items) }
+    ensures capacity { vec_capacity out.old ≤ vec_capacity out.new }
+{
+    let mut steps: Steps<()> = Steps::new();
+    let reply = net.answer(alloc, query, &mut steps)?;
+    check_names(alloc, &reply)?;
+    print_answer(alloc, &reply, out)
+}
+
+// Refuses a line that is no request. Want of memory changes nothing.
+fn refuse(fault: ReadFault, out: &mut Vec<u8>) -> Result<(), AllocError>
     requires { vec_len out.old + REPLY_ROOM ≤ vec_capacity out.old }
-    ensures reply { OnOk result (out.new.items ≡ out.old.items ++ (reply_to_asked network.old (ask line.now) ++ 10 ∷ [])) }
-    ensures state { OnOk result (network.new ≡ state_behind network.old (ask line.now)) }
-    ensures err { OnErr result ((network.new ≡ network.old) × (out.new.items ≡ out.old.items)) }
+    ensures reply { OnOk result (out.new.items ≡ out.old.items ++ (print (fault_reply fault) ++ 10 ∷ [])) }
+    ensures err { OnErr result ((fault ≡ ReadFault.Memory) × (out.new.items ≡ out.old.items)) }
+    ensures capacity { vec_capacity out.old ≤ vec_capacity out.new }
+    ensures fault { OnOk result (fault ≢ ReadFault.Memory) }
+{
+    let refusal = match fault {
+        ReadFault::NotJson => Refusal::NotJson,
+        ReadFault::BadRequest { place } => Refusal::BadRequest { place },
+        ReadFault::Memory => return Err(AllocError),
+    };
+    print_line(&refused(refusal), out);
+    Ok(())
+}
+
+// Answers a line. Want of memory changes nothing.
+fn answer(alloc: Global, net: &mut Net, line: &[u8], out: &mut Vec<u8>) -> Result<(), AllocError>
+    requires { vec_len out.old + REPLY_ROOM ≤ vec_capacity out.old }
+    ensures reply { OnOk result (out.new.items ≡ out.old.items ++ (print (reply_to net.old (ask line.now)) ++ 10 ∷ [])) }
+    ensures state { OnOk result (net.new ≡ state_behind net.old (ask line.now)) }
+    ensures err { OnErr result ((net.new ≡ net.old) × (out.new.items ≡ out.old.items)) }
     ensures capacity { vec_capacity out.old ≤ vec_capacity out.new }
 {
     match read_request(alloc, line) {
-        Ok(request) => answer_request(alloc, network, &request, out),
-        Err(Misread::NotJson) => {
-            print_line(Reply::NotJson, out);
-            Ok(())
-        }
-        Err(Misread::BadRequest) => {
-            print_line(Reply::BadRequest, out);
-            Ok(())
-        }
-        Err(Misread::Memory) => Err(AllocError),
+        Ok(Request::Command(command)) => apply(alloc, net, &command, out),
+        Ok(Request::Query(query)) => tell(alloc, net, &query, out),
+        Err(fault) => refuse(fault, out),
     }
 }
 
 impl Handler for Script {
-    ghost use Rattle.un_script.specs.State.{State};
+    ghost use Rattle.un_core.specs.State.{State};
     ghost use Rattle.un_script.specs.Script.{script};
     ghost use Rattle.un_script.specs.Replies.{script_is_plain};
 
@@ -138,31 +207,34 @@ impl Handler for Script {
 
     ghost rules = { script };
 
-    ghost state = { λ s. s.network };
+    ghost state = { λ s. s.net };
 
     ghost plain = { script_is_plain };
 
     fn is_open(&self) -> bool {
-        self.network.is_some()
+        self.net.is_some()
     }
 
     fn open(&mut self, alloc: Global, line: &[u8], out: &mut Vec<u8>) -> Opened {
-        match is_schema_line(alloc, line) {
-            Ok(true) => {
-                self.network = Some(Network::new(alloc));
-                Opened::Open
-            }
-            Ok(false) => {
-                print_bad_schema(out);
+        match read_schema(alloc, line) {
+            Ok((schema, _tiers)) => match Net::open(alloc, schema) {
+                Ok(net) => {
+                    self.net = Some(net);
+                    Opened::Open
+                }
+                Err(_) => Opened::Memory,
+            },
+            Err(SchemaFault::BadSchema { place }) => {
+                print_bad_schema(place, out);
                 Opened::Closed
             }
-            Err(_) => Opened::Memory,
+            Err(SchemaFault::Memory) => Opened::Memory,
         }
     }
 
     fn answer(&mut self, alloc: Global, line: &[u8], out: &mut Vec<u8>) -> Result<(), AllocError> {
-        match &mut self.network {
-            Some(network) => answer(alloc, network, line, out),
+        match &mut self.net {
+            Some(net) => answer(alloc, net, line, out),
             None => Err(AllocError),
         }
     }
@@ -172,11 +244,13 @@ impl Handler for Script {
         LINE_TOO_LONG
     }
 
+    #[tactic(auto, using(crate::proofs::Texts::schema_too_long_text))]
     fn refusal_too_long(&self) -> &'static [u8] {
-        bad_schema()
+        SCHEMA_TOO_LONG
     }
 
+    #[tactic(auto, using(crate::proofs::Texts::no_schema_text))]
     fn refusal_missing(&self) -> &'static [u8] {
-        bad_schema()
+        NO_SCHEMA
     }
 }

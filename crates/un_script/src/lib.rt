@@ -2,9 +2,6 @@
 #![tactic(auto)]
 
 mod handler;
-mod network;
-mod reply;
-mod request;
 mod run;
 
 pub use run::run_script;

@@ -2,10 +2,10 @@
 ghost use Rattle.std.specs.Prelude.{◌≡◌, ◌⊎◌, ◌↔◌, ℕ, ◌^◌, ◌<◌, List, Some, [], ◌∷◌, true, false, length, Contains, IsTrue};
 ghost use Rattle.std.specs.Io.KnownBytes.{IsAtEnd};
 ghost use Rattle.un_io.specs.Outside.{Rose};
-ghost use Rattle.un_lines.specs.Due.{Opens, IsFront, IsRefused, first_of};
+ghost use Rattle.un_lines.specs.Due.{Opens, IsFront, first_of};
 ghost use Rattle.un_lines.specs.Cut.{lines_of};
 ghost use Rattle.un_lines.specs.Ending.{Ran};
-ghost use Rattle.un_script.specs.Script.{script, IsScript, IsServedBy, IsUnrefused, refusal_line};
+ghost use Rattle.un_script.specs.Script.{script, IsScript, IsServedBy, IsUnrefused, IsRefusedAs};
 
 use crate::handler::Script;
 use std::alloc::Global;
@@ -53,9 +53,10 @@ pub fn run_script<S: Source, K: Sink>(
         (λ read out. IsFront script read true out × (IsFront script read false out ⊎ IsAtEnd (S.left source.new))) }
     ensures sink_cause { result ≡ 4 → Rose (K.faults sink.old) (K.faults sink.new) }
 
-    // 6: the first line that isn't blank is no schema, or the input ended without one. The refusal alone is written.
+    // 6: the first line that isn't blank is no schema, or the input ended without one. The refusal
+    // alone is written, with the first place that is bad.
     ensures refused { result ≡ 6 → Ran (S.left source.old) (S.left source.new) (K.taken sink.old) (K.taken sink.new)
-        (λ read out. IsRefused script read (S.left source.new) out × (out ≡ refusal_line)) }
+        (λ read out. IsRefusedAs script read (S.left source.new) out) }
 
     // 7: there was no memory to begin. Nothing is written.
     ensures no_memory { result ≡ 7 → Ran (S.left source.old) (S.left source.new) (K.taken sink.old) (K.taken sink.new)

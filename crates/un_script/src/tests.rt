@@ -104,21 +104,23 @@ not json
 {\"do\":\"jump\"}
 {\"do\":\"insert\",\"points\":[[0,0,0]]}
 {\"do\":\"insert\",\"kind\":\"joint\",\"points\":[[0,0,0]],\"more\":1}
-{\"do\":\"insert\",\"kind\":\"joint\",\"points\":[[0,0]]}
 {\"do\":\"insert\",\"kind\":\"joint\",\"points\":[[0,0.5,0]]}
+{\"do\":\"insert\",\"kind\":\"duct\",\"points\":[[0,0,0]]}
 {\"ask\":\"dirty\",\"extent\":[5,0,0,0]}
+{\"ask\":\"version\",\"seen\":1}
 [1]
 
  \t\r
 {\"ask\":\"dirty\",\"extent\":[0,0,0,0]}";
     let output = b"{\"error\":1,\"name\":\"NotJson\"}
 {\"error\":1,\"name\":\"NotJson\"}
-{\"error\":2,\"name\":\"BadRequest\",\"place\":\"\"}
-{\"error\":2,\"name\":\"BadRequest\",\"place\":\"\"}
-{\"error\":2,\"name\":\"BadRequest\",\"place\":\"\"}
-{\"error\":2,\"name\":\"BadRequest\",\"place\":\"\"}
-{\"error\":2,\"name\":\"BadRequest\",\"place\":\"\"}
-{\"error\":2,\"name\":\"BadRequest\",\"place\":\"\"}
+{\"error\":2,\"name\":\"BadRequest\",\"place\":\"do\"}
+{\"error\":2,\"name\":\"BadRequest\",\"place\":\"kind\"}
+{\"error\":2,\"name\":\"BadRequest\",\"place\":\"extra\"}
+{\"error\":2,\"name\":\"BadRequest\",\"place\":\"points\"}
+{\"error\":13,\"kind\":\"duct\",\"name\":\"NoSuchKind\",\"version\":0}
+{\"error\":2,\"name\":\"BadRequest\",\"place\":\"extent\"}
+{\"error\":31,\"latest\":0,\"name\":\"Ahead\",\"seen\":1}
 {\"error\":2,\"name\":\"BadRequest\",\"place\":\"\"}
 {\"areas\":[],\"ok\":\"dirty\",\"version\":0}
 ";
@@ -128,11 +130,57 @@ not json
 
 #[test]
 fn a_first_line_is_a_schema(rt: HostRuntime) -> Result<(), Fail> {
-    let refusal = b"{\"error\":6,\"name\":\"BadSchema\",\"place\":\"\"}\n";
-    assert!(rt; gives(rt.alloc(), b"", 6, refusal)?);
-    assert!(rt; gives(rt.alloc(), b"\n \n", 6, refusal)?);
-    assert!(rt; gives(rt.alloc(), b"{\"schema\":1}\n{\"schema\":0}\n", 6, refusal)?);
-    assert!(rt; gives(rt.alloc(), b"{\"schema\":0,\"tiers\":[]}\n", 6, refusal)?);
+    let alloc = rt.alloc();
+    assert!(rt;
+        gives(
+            alloc,
+            b"",
+            6,
+            b"{\"error\":6,\"name\":\"BadSchema\",\"place\":\"\"}\n"
+        )?
+    );
+    assert!(rt;
+        gives(
+            alloc,
+            b"\n[1]\n",
+            6,
+            b"{\"error\":6,\"name\":\"BadSchema\",\"place\":\"\"}\n"
+        )?
+    );
+    assert!(rt;
+        gives(
+            alloc,
+            b"{\"schema\":7}\n{\"schema\":0}\n",
+            6,
+            b"{\"error\":6,\"name\":\"BadSchema\",\"place\":\"schema\"}\n"
+        )?
+    );
+    assert!(rt;
+        gives(
+            alloc,
+            b"{\"schema\":1}",
+            6,
+            b"{\"error\":6,\"name\":\"BadSchema\",\"place\":\"attributes\"}\n"
+        )?
+    );
+    assert!(rt;
+        gives(
+            alloc,
+            b"{\"schema\":0,\"tiers\":[]}\n",
+            6,
+            b"{\"error\":6,\"name\":\"BadSchema\",\"place\":\"extra\"}\n"
+        )?
+    );
+    Ok(())
+}
+
+#[test]
+fn a_first_line_has_a_greatest_length(rt: HostRuntime) -> Result<(), Fail> {
+    let alloc = rt.alloc();
+    let mut input = Vec::new(alloc);
+    input.resize(1_048_577, b' ')?;
+    let output = b"{\"error\":6,\"name\":\"BadSchema\",\"place\":\"line\"}\n";
+    assert!(rt; gives(alloc, input.as_slice(), 6, output)?);
     Ok(())
 }
 
@@ -237,5 +285,116 @@ fn pieces_of_every_size_read_the_same(rt: HostRuntime) -> Result<(), Fail> {
         assert_eq!(rt; status, 0);
         assert_eq!(rt; sink.bytes(), output.as_slice());
     }
+    Ok(())
+}
+
+// A schema with terminals and with lines that connect at any vertex.
+const WATER: &[u8] =
+    b"{\"attributes\":[\"diameter\",\"length\",\"shut\"],\"categories\":[\"isolating\"],\"configs\":[[\"valve2\",false,[\"a\",\"b\"],[[\"open\",[[1,2]]],[\"closed\",[]]]],[\"valve3\",false,[\"a\",\"b\",\"c\"],[[\"all\",[[1,2],[1,3],[2,3]]],[\"1-2\",[[1,2]]],[\"none\",[]]]],[\"pump2\",true,[\"in\",\"out\"],[[\"run\",[[1,2]]],[\"stop\",[]]]]],\"kinds\":[[\"joint\",\"junction\",1,1,\"\",\"\",[],false],[\"main\",\"line\",1,1,\"end\",\"\",[],false],[\"feeder\",\"line\",1,2,\"any\",\"\",[],false],[\"valve\",\"device\",1,1,\"\",\"valve2\",[\"isolating\"],false],[\"tee\",\"device\",1,2,\"\",\"valve3\",[],false],[\"pump\",\"device\",2,1,\"\",\"pump2\",[],true],[\"vault\",\"assembly\",1,1,\"\",\"\",[],false],[\"bank\",\"structure\",1,1,\"\",\"\",[],false]],\"rules\":[[\"je\",\"joint\",0,\"main\"],[\"je\",\"joint\",0,\"feeder\"],[\"je\",\"valve\",0,\"main\"],[\"je\",\"tee\",0,\"main\"],[\"je\",\"pump\",0,\"main\"],[\"jj\",\"joint\",0,\"joint\",0],[\"c\",\"vault\",\"valve\"],[\"s\",\"bank\",\"main\"]],\"schema\":1,\"tiers\":[[\"zone\",[\"eq\",\"shut\",1],false]]}\n";
+
+// The schema with joints and pipes.
+const PIPES: &[u8] = b"{\"schema\":0}\n";
+
+// After the schema, the script gives these replies.
+fn replies(alloc: Global, schema: &[u8], lines: &[u8], output: &[u8]) -> Result<bool, AllocError> {
+    let input = joined(alloc, &[schema, lines])?;
+    gives(alloc, input.as_slice(), 0, output)
+}
+
+#[test]
+fn both_modes_before_and_after_a_validation(rt: HostRuntime) -> Result<(), Fail> {
+    let lines = b"{\"do\":\"insert\",\"kind\":\"joint\",\"points\":[[0,0,0]]}
+{\"do\":\"insert\",\"kind\":\"pipe\",\"points\":[[0,0,0],[10,0,0]]}
+{\"ask\":\"trace\",\"type\":\"connected\",\"starts\":[[1,1]]}
+{\"ask\":\"trace\",\"type\":\"connected\",\"starts\":[[1,1]],\"consistent\":false}
+{\"do\":\"validate\",\"extent\":[0,0,0,0]}
+{\"ask\":\"trace\",\"type\":\"connected\",\"starts\":[[1,1]]}\n";
+    let output = b"{\"areas\":[1,1],\"id\":1,\"ok\":\"insert\",\"version\":1}
+{\"areas\":[2,1],\"id\":2,\"ok\":\"insert\",\"version\":2}
+{\"area\":1,\"error\":43,\"feature\":1,\"name\":\"DirtyGround\",\"port\":1,\"version\":2}
+{\"containers\":[],\"content\":[],\"features\":[[1,[1]]],\"functions\":[],\"ok\":\"connected\",\"structures\":[],\"version\":2}
+{\"cleared\":2,\"errors\":0,\"ok\":\"validate\",\"version\":3}
+{\"containers\":[],\"content\":[],\"features\":[[1,[1]],[2,[0,1]]],\"functions\":[],\"ok\":\"connected\",\"structures\":[],\"version\":3}\n";
+    assert!(rt; replies(rt.alloc(), PIPES, lines, output)?);
+    Ok(())
+}
+
+#[test]
+fn stacked_joints_are_errors_and_not_linked(rt: HostRuntime) -> Result<(), Fail> {
+    let lines = b"{\"do\":\"insert\",\"kind\":\"joint\",\"points\":[[0,0,0]]}
+{\"do\":\"insert\",\"kind\":\"joint\",\"points\":[[0,0,0]]}
+{\"do\":\"insert\",\"kind\":\"pipe\",\"points\":[[0,0,0],[10,0,0]]}
+{\"do\":\"validate\",\"extent\":[0,0,10,0]}
+{\"ask\":\"errors\",\"extent\":[0,0,10,0]}
+{\"ask\":\"trace\",\"type\":\"connected\",\"starts\":[[3,0]]}\n";
+    let output = b"{\"areas\":[1,1],\"id\":1,\"ok\":\"insert\",\"version\":1}
+{\"areas\":[2,1],\"id\":2,\"ok\":\"insert\",\"version\":2}
+{\"areas\":[3,1],\"id\":3,\"ok\":\"insert\",\"version\":3}
+{\"cleared\":3,\"errors\":2,\"ok\":\"validate\",\"version\":4}
+{\"errors\":[[0,0,0,\"Stacked\",1,1,0],[0,0,0,\"Stacked\",2,1,0]],\"ok\":\"errors\",\"version\":4}
+{\"containers\":[],\"content\":[],\"features\":[[3,[0,1]]],\"functions\":[],\"ok\":\"connected\",\"structures\":[],\"version\":4}\n";
+    assert!(rt; replies(rt.alloc(), PIPES, lines, output)?);
+    Ok(())
+}
+
+#[test]
+fn an_inner_vertex_connects_by_the_policy_of_its_kind(rt: HostRuntime) -> Result<(), Fail> {
+    let lines = b"{\"do\":\"insert\",\"kind\":\"joint\",\"points\":[[5,0,0]]}
+{\"do\":\"insert\",\"kind\":\"main\",\"points\":[[0,0,0],[5,0,0],[10,0,0]]}
+{\"do\":\"insert\",\"kind\":\"feeder\",\"points\":[[5,5,0],[5,0,0],[5,-5,0]]}
+{\"do\":\"validate\",\"extent\":[-10,-10,10,10]}
+{\"ask\":\"trace\",\"type\":\"connected\",\"starts\":[[1,1]]}\n";
+    let output = b"{\"areas\":[1,1],\"id\":1,\"ok\":\"insert\",\"version\":1}
+{\"areas\":[2,1],\"id\":2,\"ok\":\"insert\",\"version\":2}
+{\"areas\":[3,1],\"id\":3,\"ok\":\"insert\",\"version\":3}
+{\"cleared\":3,\"errors\":0,\"ok\":\"validate\",\"version\":4}
+{\"containers\":[],\"content\":[],\"features\":[[1,[1]],[3,[0,1,2]]],\"functions\":[],\"ok\":\"connected\",\"structures\":[],\"version\":4}\n";
+    assert!(rt; replies(rt.alloc(), WATER, lines, output)?);
+    Ok(())
+}
+
+#[test]
+fn another_height_is_another_point(rt: HostRuntime) -> Result<(), Fail> {
+    let lines = b"{\"do\":\"insert\",\"kind\":\"joint\",\"points\":[[0,0,1]]}
+{\"do\":\"insert\",\"kind\":\"pipe\",\"points\":[[0,0,0],[10,0,0]]}
+{\"do\":\"validate\",\"extent\":[0,0,10,0]}
+{\"ask\":\"trace\",\"type\":\"connected\",\"starts\":[[1,1]]}\n";
+    let output = b"{\"areas\":[1,1],\"id\":1,\"ok\":\"insert\",\"version\":1}
+{\"areas\":[2,1],\"id\":2,\"ok\":\"insert\",\"version\":2}
+{\"cleared\":2,\"errors\":0,\"ok\":\"validate\",\"version\":3}
+{\"containers\":[],\"content\":[],\"features\":[[1,[1]]],\"functions\":[],\"ok\":\"connected\",\"structures\":[],\"version\":3}\n";
+    assert!(rt; replies(rt.alloc(), PIPES, lines, output)?);
+    Ok(())
+}
+
+#[test]
+fn a_shared_point_stays_dirty(rt: HostRuntime) -> Result<(), Fail> {
+    let lines = b"{\"do\":\"insert\",\"kind\":\"pipe\",\"points\":[[0,0,0],[10,0,0]]}
+{\"do\":\"insert\",\"kind\":\"joint\",\"points\":[[10,0,0]]}
+{\"do\":\"validate\",\"extent\":[0,0,5,0]}
+{\"ask\":\"trace\",\"type\":\"connected\",\"starts\":[[1,0]]}
+{\"ask\":\"trace\",\"type\":\"connected\",\"starts\":[[1,0]],\"consistent\":false}\n";
+    let output = b"{\"areas\":[1,1],\"id\":1,\"ok\":\"insert\",\"version\":1}
+{\"areas\":[2,1],\"id\":2,\"ok\":\"insert\",\"version\":2}
+{\"cleared\":1,\"errors\":0,\"ok\":\"validate\",\"version\":3}
+{\"area\":2,\"error\":43,\"feature\":1,\"name\":\"DirtyGround\",\"port\":1,\"version\":3}
+{\"containers\":[],\"content\":[],\"features\":[[1,[0,1]],[2,[1]]],\"functions\":[],\"ok\":\"connected\",\"structures\":[],\"version\":3}\n";
+    assert!(rt; replies(rt.alloc(), PIPES, lines, output)?);
+    Ok(())
+}
+
+#[test]
+fn terminals_that_are_not_chosen_are_errors(rt: HostRuntime) -> Result<(), Fail> {
+    let lines = b"{\"do\":\"insert\",\"kind\":\"tee\",\"points\":[[0,0,0]]}
+{\"do\":\"insert\",\"kind\":\"main\",\"points\":[[0,0,0],[10,0,0]]}
+{\"do\":\"insert\",\"kind\":\"feeder\",\"points\":[[0,5,0],[0,0,0],[0,-5,0]]}
+{\"do\":\"validate\",\"extent\":[0,0,0,0]}
+{\"ask\":\"errors\",\"extent\":[0,0,0,0]}\n";
+    let output = b"{\"areas\":[1,1],\"id\":1,\"ok\":\"insert\",\"version\":1}
+{\"areas\":[2,1],\"id\":2,\"ok\":\"insert\",\"version\":2}
+{\"areas\":[3,1],\"id\":3,\"ok\":\"insert\",\"version\":3}
+{\"cleared\":3,\"errors\":2,\"ok\":\"validate\",\"version\":4}
+{\"errors\":[[0,0,0,\"BadTerminal\",2,0,0],[0,0,0,\"MidspanTerminal\",3,1,0]],\"ok\":\"errors\",\"version\":4}\n";
+    assert!(rt; replies(rt.alloc(), WATER, lines, output)?);
     Ok(())
 }

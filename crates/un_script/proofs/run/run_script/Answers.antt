@@ -1,7 +1,7 @@
 use Rattle.std.proofs.Common.{◌≡◌, ◌⊎◌, inl, inr, lit<, refl}
 use Rattle.un_lines.specs.declared.run.Ending.TheVariants.{Ended, Refused, Memory, Limit}
 use Rattle.un_lines.proofs.Public.{Ran-weaker}
-use Rattle.un_script.proofs.Refusals.{refused_alone}
+use Rattle.un_script.proofs.Refusals.{refused_alone, served_unrefused}
 use Rattle.un_script.proofs.run.run_script.Goals as goal
 
 pub returns-in-SinkFault-clause-statuses : goal.returns-in-SinkFault-clause-statuses
@@ -21,7 +21,7 @@ returns-clause-statuses g c = (6, lit< tt, refl)
 
 pub returns-in-Refused-clause-refused : goal.returns-in-Refused-clause-refused
 returns-in-Refused-clause-refused g c = λ _.
-    Ran-weaker _ _ _ _ _ _ (c.in-Refused.ensures.refused refl) (λ read out refused. (refused, refused_alone read _ out refused))
+    Ran-weaker _ _ _ _ _ _ (c.in-Refused.ensures.refused refl) (λ read out refused. refused_alone read _ out refused)
 
 refused_is_neither : (Refused ≡ Ended) ⊎ (Refused ≡ Memory) → ⊥
 refused_is_neither (inl is) = cc
@@ -50,3 +50,11 @@ returns-in-Refused-clause-complete g c = λ bytes words told opens short source 
 pub returns-clause-complete : goal.returns-clause-complete
 returns-clause-complete g c = λ bytes words told opens short source sink.
     absurd (limit_is_neither (c.in-Limit.ensures.complete bytes told opens short (λ e. cc) (λ e. cc)))
+
+pub returns-in-SourceFault-clause-source_fault : goal.returns-in-SourceFault-clause-source_fault
+returns-in-SourceFault-clause-source_fault g c = λ _.
+    Ran-weaker _ _ _ _ _ _ (c.in-SourceFault.ensures.source_fault refl) (λ read out served. (served.0, served_unrefused read _ out served.1))
+
+pub returns-clause-limit : goal.returns-clause-limit
+returns-clause-limit g c = λ _.
+    Ran-weaker _ _ _ _ _ _ (c.in-Limit.ensures.limit refl) (λ read out served. (served.0, served_unrefused read _ out served.1))

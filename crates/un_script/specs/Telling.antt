@@ -1,0 +1,314 @@
+-- No reply of the definitions tells of want of memory.
+use Rattle.std.proofs.Common.{◌≡◌, ◌≢◌, ℕ, ℤ, ◌+◌, ◌==◌, ◌&&◌, ◌||◌, nat_lt, nat_le, not, map, length, is_some, if◌then◌else◌, Bool, true, false, List, [], ◌∷◌, Option, None, Some, Result, Ok, Err, option_map, option_and_then, refl, subst}
+use Rattle.std.specs.Prelude.{⊤}
+use Rattle.std.specs.List.{list_all}
+use Rattle.std.specs.Option.{IfSome, option_map_or}
+use Rattle.un_schema.specs.declared.kind.Class.{Class}
+use Rattle.un_schema.specs.declared.kind.Kind.{Kind}
+use Rattle.un_schema.specs.declared.place.Place.{Place}
+use Rattle.un_schema.specs.declared.place.Place.TheVariants as place
+use Rattle.un_schema.specs.Catalog.{Catalog, kind_at, kind_named, path_named}
+use Rattle.un_defs.specs.declared.row.Row.{Row}
+use Rattle.un_defs.specs.declared.port.Port.{Port}
+use Rattle.un_defs.specs.declared.port.Node.{Node}
+use Rattle.un_defs.specs.declared.walk.Dirt.{Dirt}
+use Rattle.un_defs.specs.declared.edit.Edit.{Edit}
+use Rattle.un_defs.specs.declared.edit.Edit.TheVariants as edit
+use Rattle.un_defs.specs.declared.refusal.Refusal.{Refusal}
+use Rattle.un_defs.specs.declared.refusal.Refusal.TheVariants as refusal
+use Rattle.un_defs.specs.declared.refusal.Limit.TheVariants as limit
+use Rattle.un_defs.specs.Ground.{Ground}
+use Rattle.un_defs.specs.Features.{is_line, row}
+use Rattle.un_defs.specs.Stain.{stain}
+use Rattle.un_defs.specs.Reach.{dirt}
+use Rattle.un_store.specs.Keyed.{row_with}
+use Rattle.un_store.specs.Refusals.{first_due, due_if, refusal_of, no_kind, of_kind, no_row, of_row, no_line, no_path, no_room, not_plain, is_both, is_device, same_class, other_class, bad_shape, bad_attribute, most_rows}
+use Rattle.un_ask.specs.declared.request.Command.{Command}
+use Rattle.un_ask.specs.declared.request.Command.TheVariants as command
+use Rattle.un_ask.specs.declared.request.Request.{Request}
+use Rattle.un_ask.specs.declared.request.Request.TheVariants as request
+use Rattle.un_ask.specs.declared.query.Query.{Query}
+use Rattle.un_ask.specs.declared.query.Asked.{Asked}
+use Rattle.un_ask.specs.declared.query.Asked.TheVariants as asked
+use Rattle.un_ask.specs.declared.typed.TypedAsk.{TypedAsk}
+use Rattle.un_ask.specs.declared.trace.TraceAsk.{TraceAsk}
+use Rattle.un_ask.specs.declared.reply.Reply.{Reply}
+use Rattle.un_ask.specs.declared.reply.Reply.TheVariants as reply
+use Rattle.un_json.specs.declared.fault.ReadFault.{ReadFault}
+use Rattle.un_json.specs.declared.fault.ReadFault.TheVariants.{NotJson, BadRequest, Memory}
+use Rattle.un_json.specs.Requests.{ask, asked_by, or_fault, request_of, json_of}
+use Rattle.serde_json.specs.Data.{Data}
+use Rattle.un_trace.specs.Told.{told, told_over, tells_controllers, controllers_reply, result_reply}
+use Rattle.un_core.specs.State.{State, kept_ground}
+use Rattle.un_core.specs.Refusals.{numbers_due, too_many, most_areas, last_number}
+use Rattle.un_core.specs.Step.{Event, edits, validates}
+use Rattle.un_core.specs.Commands.{event_of, event_due, reply_to, accepted, command_reply, refused as command_refused}
+use Rattle.un_core.specs.Answers.{answer, asked as asked_of, traced_kept, at_version, query_due, untaken, untaken_member, starts_due, start_due, start_node, start_nodes, connected_from, reached_kept, refused, is_connected, bad_if, too_early}
+use Rattle.un_script.specs.Told.{IsTold}
+use Rattle.un_script.specs.Script.{reply_to as reply_to_asked}
+
+-- a refusal that may be due is none of want of memory
+IsOther : Option Refusal → Type 0
+IsOther d = IfSome d (λ r. r ≢ refusal.Memory)
+
+AreOther : List (Option Refusal) → Type 0
+AreOther [] = ⊤
+AreOther (d ∷ ds) = IsOther d × AreOther ds
+
+first_other : (ds : List (Option Refusal)) → AreOther ds → IsOther (first_due ds)
+unfolding IsOther AreOther
+first_other [] others = tt
+first_other (None ∷ ds) others = first_other ds others.1
+first_other (Some r ∷ ds) others = others.0
+
+due_where : (b : Bool) (r : Refusal) → r ≢ refusal.Memory → IsOther (due_if b r)
+unfolding IsOther
+due_where true r other = other
+due_where false r other = tt
+
+-- ---- edits
+
+kind_other : (S : Catalog) (name : List ℕ) → IsOther (no_kind S name)
+unfolding IsOther
+kind_other S name = go (kind_named S name)
+  where
+    go : (o : Option ℕ) → IsOther (option_map_or (λ k. None) o (Some (refusal.NoSuchKind name)))
+    go None = λ e. cc
+    go (Some k) = tt
+
+of_kind_other : (S : Catalog) (name : List ℕ) (due : Kind → Option Refusal) → ((k : Kind) → IsOther (due k)) → IsOther (of_kind S name due)
+unfolding IsOther
+of_kind_other S name due other = go (kind_named S name)
+  where
+    at : (o : Option Kind) → IsOther (option_and_then due o)
+    at None = tt
+    at (Some k) = other k
+
+    go : (o : Option ℕ) → IsOther (option_and_then (λ k. option_and_then due (kind_at S k)) o)
+    go None = tt
+    go (Some k) = at (kind_at S k)
+
+mapped_other : {A : Type 0} (f : A → Refusal) (o : Option A) → ((a : A) → f a ≢ refusal.Memory) → IsOther (option_map f o)
+unfolding IsOther
+mapped_other f None other = tt
+mapped_other f (Some a) other = other a
+
+row_other : (rows : List Row) (id base : ℕ) → IsOther (no_row rows id base)
+unfolding IsOther
+row_other rows id base = go (row_with rows id)
+  where
+    go : (o : Option Row) → IsOther (option_map_or (λ r. due_if (not (r.moment == base)) (refusal.Moved r.moment)) o (Some (refusal.NoSuchFeature id)))
+    go None = λ e. cc
+    go (Some r) = due_where (not (r.moment == base)) (refusal.Moved r.moment) (λ e. cc)
+
+of_row_other : (rows : List Row) (id : ℕ) (due : Row → Option Refusal) → ((r : Row) → IsOther (due r)) → IsOther (of_row rows id due)
+unfolding IsOther
+of_row_other rows id due other = go (row_with rows id)
+  where
+    go : (o : Option Row) → IsOther (option_and_then due o)
+    go None = tt
+    go (Some r) = other r
+
+shape_other : (class : Class) (points : List (List ℤ)) → IsOther (bad_shape class points)
+shape_other class points = mapped_other _ _ (λ place e. cc)
+
+attribute_other : (S : Catalog) (attrs : List (List ℕ × ℤ)) → IsOther (bad_attribute S attrs)
+attribute_other S attrs = mapped_other _ _ (λ pair e. cc)
+
+line_other : (r : Row) → IsOther (no_line r)
+line_other r = due_where (not (is_line r.class)) refusal.WrongKind (λ e. cc)
+
+none_other : IsOther None
+unfolding IsOther
+none_other = tt
+
+row_edit_other : (S : Catalog) (rows : List Row) (e : Edit) → IsOther (refusal_of S rows e)
+unfolding AreOther
+row_edit_other S rows (edit.Insert kind points attrs flow ends note) = first_other
+    (no_kind S kind ∷ of_kind S kind (λ k. not_plain k.class flow ends) ∷ of_kind S kind (λ k. bad_shape k.class points) ∷ bad_attribute S attrs ∷ no_room rows ∷ []) (
+      kind_other S kind,
+      (
+        of_kind_other S kind (λ k. not_plain k.class flow ends)
+            (λ k. due_where (not (is_line k.class) && not (is_both flow && list_all (λ terminal. terminal == 0) ends)) refusal.WrongKind (λ e. cc)),
+        (
+          of_kind_other S kind (λ k. bad_shape k.class points) (λ k. shape_other k.class points),
+          (
+            attribute_other S attrs,
+            (due_where (not (nat_lt (length rows) most_rows)) (refusal.Full limit.Features) (λ e. cc), tt),
+          ),
+        ),
+      ),
+    )
+row_edit_other S rows (edit.Reshape id base points) = first_other (no_row rows id base ∷ of_row rows id (λ r. bad_shape r.class points) ∷ [])
+    (row_other rows id base, (of_row_other rows id (λ r. bad_shape r.class points) (λ r. shape_other r.class points), tt))
+row_edit_other S rows (edit.Attrs id base attrs) = first_other (no_row rows id base ∷ bad_attribute S attrs ∷ [])
+    (row_other rows id base, (attribute_other S attrs, tt))
+row_edit_other S rows (edit.Kind id base kind) = first_other
+    (no_row rows id base ∷ no_kind S kind ∷ of_kind S kind (λ k. of_row rows id (other_class k)) ∷ []) (
+      row_other rows id base,
+      (
+        kind_other S kind,
+        (
+          of_kind_other S kind (λ k. of_row rows id (other_class k))
+              (λ k. of_row_other rows id (other_class k) (λ r. due_where (not (same_class k.class r.class)) refusal.WrongKind (λ e. cc))),
+          tt,
+        ),
+      ),
+    )
+row_edit_other S rows (edit.Path id base path) = first_other (no_row rows id base ∷ of_row rows id (no_path S path) ∷ []) (
+  row_other rows id base,
+  (of_row_other rows id (no_path S path) (λ r. due_where (not (is_device r.class && is_some (path_named S r.kind path))) refusal.BadPath (λ e. cc)), tt),
+)
+row_edit_other S rows (edit.Flow id base flow) = first_other (no_row rows id base ∷ of_row rows id no_line ∷ [])
+    (row_other rows id base, (of_row_other rows id no_line line_other, tt))
+row_edit_other S rows (edit.Ends id base ends) = first_other (no_row rows id base ∷ of_row rows id no_line ∷ [])
+    (row_other rows id base, (of_row_other rows id no_line line_other, tt))
+row_edit_other S rows (edit.Note id base note) = row_other rows id base
+row_edit_other S rows (edit.Delete id base) = row_other rows id base
+row_edit_other S rows (edit.Connect from to) = none_other
+row_edit_other S rows (edit.Contain container content) = none_other
+row_edit_other S rows (edit.Attach structure content) = none_other
+row_edit_other S rows (edit.Detach assoc) = none_other
+row_edit_other S rows (edit.Controller id terminal tier subnet) = none_other
+row_edit_other S rows (edit.Uncontroller id terminal) = none_other
+row_edit_other S rows (edit.Rule rule) = none_other
+
+-- ---- commands
+
+numbers_other : (s : State) → IsOther (numbers_due s)
+numbers_other s = due_where
+    (nat_le last_number s.version || nat_le last_number s.next_feature || nat_le last_number s.next_association || nat_le last_number s.next_area)
+    (refusal.Full limit.Numbers) (λ e. cc)
+
+event_other : (s : State) (e : Event) → IsOther (event_due s e)
+unfolding AreOther
+event_other s (edits e) = first_other (numbers_due s ∷ refusal_of s.catalog s.features.rows e ∷ too_many s.areas (stain s.features e) ∷ []) (
+  numbers_other s,
+  (
+    row_edit_other s.catalog s.features.rows e,
+    (due_where (nat_lt most_areas (length s.areas + length (stain s.features e))) (refusal.Full limit.Areas) (λ e. cc), tt),
+  ),
+)
+event_other s (validates extent) = numbers_other s
+
+-- a refusal where one is due, or else a reply
+told_where : (d : Option Refusal) (refuse : Refusal → Reply) (other : Reply) → IsOther d → ((r : Refusal) → r ≢ refusal.Memory → IsTold (refuse r)) → IsTold other
+    → IsTold (option_map_or refuse d other)
+unfolding IsOther
+told_where None refuse other due refused told = told
+told_where (Some r) refuse other due refused told = refused r due
+
+command_told : (s : State) (c : Command) → IsTold (command_reply s c)
+command_told s c = go (event_of c)
+  where
+    at : (e : Event) → IsTold (accepted s e)
+    at (edits e) = tt
+    at (validates extent) = tt
+
+    go : (o : Option Event) → IsTold (reply_to s o)
+    go None = λ e. cc
+    go (Some e) = told_where (event_due s e) (command_refused s) (accepted s e) (event_other s e) (λ r other. other) (at e)
+
+-- ---- queries
+
+bad_where : (b : Bool) (p : Place) → IsOther (due_if b (refusal.BadRequest p))
+bad_where b p = due_where b (refusal.BadRequest p) (λ e. cc)
+
+member_other : (ask : TraceAsk) → IsOther (untaken_member ask)
+unfolding AreOther
+member_other ask = first_other
+    (bad_if (not (is_connected ask.kind)) place.Ask ∷ bad_if (is_some ask.tier) place.Tier ∷ bad_if (is_some ask.subnet) place.Subnet
+    ∷ bad_if (is_some ask.isolators) place.Isolators ∷ bad_if (is_some ask.barriers) place.Barriers
+    ∷ bad_if (not (length ask.functions == 0)) place.Functions ∷ []) (
+      bad_where (not (is_connected ask.kind)) place.Ask,
+      (
+        bad_where (is_some ask.tier) place.Tier,
+        (
+          bad_where (is_some ask.subnet) place.Subnet,
+          (
+            bad_where (is_some ask.isolators) place.Isolators,
+            (
+              bad_where (is_some ask.barriers) place.Barriers,
+              (bad_where (not (length ask.functions == 0)) place.Functions, tt),
+            ),
+          ),
+        ),
+      ),
+    )
+
+untaken_other : (what : Asked) → IsOther (untaken what)
+unfolding IsOther
+untaken_other asked.Version = tt
+untaken_other (asked.Feature id) = λ e. cc
+untaken_other (asked.Dirty extent) = tt
+untaken_other (asked.Errors extent) = tt
+untaken_other (asked.Subnet tier subnet) = λ e. cc
+untaken_other (asked.Trace ask) = member_other ask
+
+start_other : (s : State) (q : Port) → IsOther (start_due s q)
+unfolding AreOther
+start_other s q = first_other
+    (due_if (not (is_some (row s.features q.feature))) (refusal.NoSuchFeature q.feature)
+    ∷ due_if (not (is_some (start_node s q))) (refusal.NoStart q.feature q.number) ∷ []) (
+      due_where (not (is_some (row s.features q.feature))) (refusal.NoSuchFeature q.feature) (λ e. cc),
+      (due_where (not (is_some (start_node s q))) (refusal.NoStart q.feature q.number) (λ e. cc), tt),
+    )
+
+starts_are_other : (s : State) (starts : List Port) → AreOther (map (start_due s) starts)
+unfolding AreOther
+starts_are_other s [] = tt
+starts_are_other s (q ∷ starts) = (start_other s q, starts_are_other s starts)
+
+starts_other : (s : State) (starts : List Port) → IsOther (starts_due s starts)
+starts_other s starts = first_other (map (start_due s) starts) (starts_are_other s starts)
+
+told_told : (v : ℕ) (G : Ground) (ask : TypedAsk) (reached : List Node) → IsTold (at_version v (told G ask reached))
+told_told v G ask reached = go (if ask.barriers.consistent then dirt G reached else None)
+  where
+    clean : (b : Bool) → IsTold (at_version v (if b then controllers_reply G ask reached else result_reply G ask reached))
+    clean true = tt
+    clean false = tt
+
+    go : (d : Option Dirt) → IsTold (at_version v (told_over d G ask reached))
+    go (Some d) = λ e. cc
+    go None = clean (tells_controllers ask.kind)
+
+answer_told : (s : State) (q : Query) → IsTold (answer s q)
+unfolding AreOther
+answer_told s q = told_where (query_due s q) (refused s) (asked_of s q.what)
+    (first_other (untaken q.what ∷ too_early s q.seen ∷ [])
+    (untaken_other q.what, (due_where (nat_lt s.version q.seen) (refusal.Ahead q.seen s.version) (λ e. cc), tt)))
+    (λ r other. other) (at q.what)
+  where
+    at : (what : Asked) → IsTold (asked_of s what)
+    at asked.Version = tt
+    at (asked.Feature id) = λ e. cc
+    at (asked.Dirty extent) = tt
+    at (asked.Errors extent) = tt
+    at (asked.Subnet tier subnet) = λ e. cc
+    at (asked.Trace ask) = let from = connected_from ask (start_nodes s ask.starts) in
+        told_where (starts_due s ask.starts) (refused s) (at_version s.version (traced_kept s from)) (starts_other s ask.starts) (λ r other. other)
+        (told_told s.version (kept_ground s) from (reached_kept s from))
+
+-- ---- lines
+
+never_memory : (text : List ℕ) → ask text ≢ Err Memory
+never_memory text e = go (json_of text) e
+  where
+    at : (r : Result Request Place) → or_fault r ≡ Err Memory → ⊥
+    at (Err p) e = cc
+    at (Ok r) e = cc
+
+    go : (o : Option Data) → asked_by o ≡ Err Memory → ⊥
+    go None e = cc
+    go (Some d) e = at (request_of d) e
+
+pub line_told : (s : State) (text : List ℕ) → IsTold (reply_to_asked s (ask text))
+line_told s text = go (ask text) (never_memory text)
+  where
+    go : (r : Result Request ReadFault) → r ≢ Err Memory → IsTold (reply_to_asked s r)
+    go (Err NotJson) other = λ e. cc
+    go (Err (BadRequest place)) other = λ e. cc
+    go (Err Memory) other = absurd (other refl)
+    go (Ok (request.Command c)) other = command_told s c
+    go (Ok (request.Query q)) other = answer_told s q
