@@ -1,5 +1,5 @@
 // The map.
-ghost use Rattle.std.specs.Prelude.{◌≡◌, ◌∷◌, [], List, Option, None, Some, map, length, IfOk, IfSome, IfNone, if◌then◌else◌};
+ghost use Rattle.std.specs.Prelude.{◌≡◌, ◌∷◌, [], List, Option, None, Some, map, length, IfOk, OnOk, OnErr, IfSome, IfNone, if◌then◌else◌};
 ghost use Rattle.std.specs.Option.{option_copied};
 ghost use Rattle.std.specs.Arc.{arc_value};
 ghost use Rattle.std.specs.Map.{remove_entry};
@@ -16,7 +16,8 @@ use std::sync::Arc;
 use un_geom::{Point, Rect};
 use un_pages::Paged;
 
-/// A map from points. A map never changes: each call that would change it gives a new one, which shares its pages.
+/// A map from points. `with` and `without` give a new map, which shares its pages with this one; `put` and `take` change the map itself, and
+/// none of those that share its pages.
 #[derive(Drop)]
 pub struct PointMap<V: Drop> {
     pairs: Paged<Point, V>,
@@ -75,6 +76,29 @@ impl<V: Drop> PointMap<V> {
         Ok(PointMap {
             pairs: self.pairs.without(alloc, &p)?,
         })
+    }
+
+    /// `with`, in the map itself: pages that no other map shares are changed in place, and the others copied. After an `Err` the map is as
+    /// it was.
+    pub fn put(&mut self, alloc: Global, p: Point, value: Arc<V>) -> Result<(), AllocError>
+        ensures list { OnOk result (self.new ≡ insert_entry point_cmp self.old p (arc_value value)) }
+        ensures values { OnOk result ((q : Point) → value_at q self.new ≡ (if same_point q p then Some (arc_value value) else value_at q self.old)) }
+        ensures err { OnErr result (self.new ≡ self.old) }
+    {
+        self.pairs.put(alloc, p, value)?;
+        Ok(())
+    }
+
+    /// `without`, in the map itself: pages that no other map shares are changed in place, and the others copied. After an `Err` the map is
+    /// as it was.
+    pub fn take(&mut self, alloc: Global, p: Point) -> Result<(), AllocError>
+        ensures list { OnOk result (self.new ≡ remove_entry (is_at (point_cmp p)) self.old) }
+        ensures values { OnOk result ((q : Point) → value_at q self.new ≡ (if same_point q p then None else value_at q self.old)) }
+        ensures err { OnErr result (self.new ≡ self.old) }
+    {
+        let _len = self.pairs.len();
+        self.pairs.take(alloc, &p)?;
+        Ok(())
     }
 
     /// An equal map, which shares all pages.

@@ -36,6 +36,24 @@ fn values_stand_at_points(rt: HostRuntime) -> Result<(), Fail> {
 }
 
 #[test]
+fn changes_in_place_leave_a_shared_map(rt: HostRuntime) -> Result<(), Fail> {
+    let mut map = some_points(rt.alloc())?;
+    let old = map.share()?;
+    map.put(rt.alloc(), at(0, 0, 5), Arc::new(rt.alloc(), 7)?)?;
+    map.put(rt.alloc(), at(0, 0, 6), Arc::new(rt.alloc(), 8)?)?;
+    map.take(rt.alloc(), at(5, 11, 0))?;
+    map.take(rt.alloc(), at(5, 11, 1))?;
+    assert_eq!(rt; map.len(), 5);
+    assert_eq!(rt; map.get(at(0, 0, 5)).copied(), Some(7));
+    assert_eq!(rt; map.get(at(0, 0, 6)).copied(), Some(8));
+    assert_eq!(rt; map.get(at(5, 11, 0)).copied(), None);
+    assert_eq!(rt; old.len(), 5);
+    assert_eq!(rt; old.get(at(0, 0, 5)).copied(), Some(2));
+    assert_eq!(rt; old.get(at(5, 11, 0)).copied(), Some(3));
+    Ok(())
+}
+
+#[test]
 fn points_under_a_rectangle(rt: HostRuntime) -> Result<(), Fail> {
     let map = some_points(rt.alloc())?;
     let square = Rect::new(0, 0, 10, 10).ok_or("square")?;
