@@ -7,6 +7,7 @@ ghost use Rattle.un_dirty.specs.Areas.{no_areas, added, cleared, least_number, w
 
 use std::alloc::{AllocError, Global};
 use std::marker::Model;
+use std::sync::Arc;
 use thiserror::Error;
 use un_geom::{Point, Rect};
 use un_pages::{Memory, Paged};
@@ -150,7 +151,7 @@ fn extended(
     let mut extended = areas.share()?;
     let mut number = first;
     for rect in rects {
-        extended = extended.with(alloc, number, *rect)?;
+        extended.put(alloc, number, Arc::new(alloc, *rect)?)?;
         number += 1;
     }
     Ok(extended)
@@ -197,7 +198,7 @@ fn without_all(
 {
     let mut left = areas.share()?;
     for area in gone {
-        left = left.without(alloc, &area.0)?;
+        left.take(alloc, &area.0)?;
     }
     Ok(left)
 }
