@@ -1,4 +1,4 @@
-ghost use Rattle.std.specs.Prelude.{◌≡◌, [], ◌++◌, IfOk, map, if◌then◌else◌};
+ghost use Rattle.std.specs.Prelude.{◌≡◌, [], ◌++◌, IfOk, OnOk, map, if◌then◌else◌};
 ghost use Rattle.std.specs.BTreeSet.{insert_key};
 ghost use Rattle.un_geom.specs.declared.point.Point.{Point};
 ghost use Rattle.un_geom.specs.Places.{same_point};
@@ -74,16 +74,14 @@ impl Grid {
         self.points.points(alloc, &extent)
     }
 
-    // The grid with one port more at a point.
-    fn with_port(&self, alloc: Global, p: Point, port: Port) -> Result<Grid, AllocError>
-        ensures { IfOk result (λ g. (r : Point) → ports_in g r ≡ (if same_point r p then insert_key port_cmp (ports_in self.now p) port else ports_in self.now r)) }
+    // Puts one port more at a point.
+    fn put_port(&mut self, alloc: Global, p: Point, port: Port) -> Result<(), AllocError>
+        ensures { OnOk result ((r : Point) → ports_in self.new r ≡ (if same_point r p then insert_key port_cmp (ports_in self.old p) port else ports_in self.old r)) }
     {
         let ports = with_port(alloc, self.at(p), port)?;
-        Ok(Grid {
-            points: self
-                .points
-                .with(alloc, p, Arc::new(alloc, Ports::new(ports))?)?,
-        })
+        let shared = Arc::new(alloc, Ports::new(ports))?;
+        self.points.put(alloc, p, shared)?;
+        Ok(())
     }
 
     // The grid with the ports of some nodes besides its own.
@@ -92,7 +90,7 @@ impl Grid {
     {
         let mut grid = self.share()?;
         for node in nodes {
-            grid = grid.with_port(alloc, node.at, node.port)?;
+            grid.put_port(alloc, node.at, node.port)?;
         }
         Ok(grid)
     }

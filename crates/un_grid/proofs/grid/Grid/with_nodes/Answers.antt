@@ -9,8 +9,8 @@ loop-node-init c = none_yet c.args.self.now c.in_ok-grid.grid c.share.ensures.gr
 
 pub loop-node-preserved : goal.loop-node-preserved
 loop-node-preserved c =
-    subst (λ ns. HasNodes c.args.self.now ns c.in_ok-grid-2.grid) (sym (take_more c.args.nodes.now c.loop-node.node-index _ c.loop-node-test.true))
-    (one_more c.args.self.now c.loop-node.grid c.in_ok-grid-2.grid (take c.loop-node.node-index c.args.nodes.now) _ c.loop-node.invariant c.in_ok-grid-2.ensures)
+    subst (λ ns. HasNodes c.args.self.now ns c.put_port.new.self) (sym (take_more c.args.nodes.now c.loop-node.node-index _ c.loop-node-test.true))
+    (one_more c.args.self.now c.loop-node.grid c.put_port.new.self (take c.loop-node.node-index c.args.nodes.now) _ c.loop-node.invariant c.in_ok-put_port.ensures)
 
 pub returns : goal.returns
 returns c = subst (λ ns. HasNodes c.args.self.now ns c.loop-node.grid) (take_all c.loop-node.node-index c.args.nodes.now c.loop-node-test.false) c.loop-node.invariant
