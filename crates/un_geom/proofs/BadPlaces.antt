@@ -5,6 +5,7 @@ use Rattle.std.specs.Option.{option_map_or}
 use Rattle.std.proofs.lemmas.Bool.Decides.{nat_tests}
 use Rattle.std.proofs.lemmas.Option.{slice_get-get_or}
 use Rattle.un_geom.specs.Places.{in_range, is_placed, repeats, is_bad_vertex, missing_place, or_else, bad_place}
+use Rattle.un_geom.specs.Counts.{CountLaw}
 
 passed : (b : Bool) (x : ℕ) (r : Option ℕ) → cond b (Some x) r ≡ None → (b ≡ false) × (r ≡ None)
 passed true x r e = cc
@@ -41,7 +42,7 @@ good_triples least most points e k d h =
 not_under : (n m : ℕ) (r : Option ℕ) → (cond (nat_lt n m) (Some n) None) ≡ None → m ≤ n
 not_under n m r e = grind (arith, nat_tests)
 
-pub good_count : (least most : ℕ) (points : List (List ℤ)) → bad_place least most points ≡ None → (least ≤ length points) × (length points ≤ most)
+pub good_count : CountLaw
 good_count least most points e = (not_under _ _ None missing, few (length points) refl)
   where
     missing : missing_place least points ≡ None

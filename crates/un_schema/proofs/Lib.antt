@@ -4,3 +4,4 @@ pub mod PathParts
 pub mod Distinct
 pub mod Soundness
 pub mod Steps
+pub mod GoodSchemas

@@ -2,3 +2,4 @@ pub mod Held
 pub mod Dues
 pub mod Makings
 mod Samples
+pub mod Fitting

@@ -68,10 +68,10 @@ module _ (S : Catalog) (id moment : ℕ) (name : List ℕ) (points : List (List 
 
 -- ---- a changed row fits its kind
 
-all_at : {X : Type 0} (P : X → Type 0) (xs : List X) (i : ℕ) (x : X) → All P xs → slice_get xs i ≡ Some x → P x
+pub all_at : {X : Type 0} (P : X → Type 0) (xs : List X) (i : ℕ) (x : X) → All P xs → slice_get xs i ≡ Some x → P x
 all_at P xs i x all at = subst P (get_or_from_slice_get xs i x x at) (all i x (slice_get_within xs i x at))
 
-some_at : {X : Type 0} (xs : List X) (i : ℕ) → i < length xs → IsSome (slice_get xs i)
+pub some_at : {X : Type 0} (xs : List X) (i : ℕ) → i < length xs → IsSome (slice_get xs i)
 some_at [] i h = absurd (omega arith)
 some_at (x ∷ xs) zero h = refl
 some_at (x ∷ xs) (suc i) h = some_at xs i (omega arith)

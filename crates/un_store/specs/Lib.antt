@@ -2,3 +2,4 @@ pub mod Keyed
 pub mod Words
 pub mod Refusals
 pub mod Edits
+pub mod Fitting
