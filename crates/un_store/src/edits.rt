@@ -245,21 +245,21 @@ impl Store {
     {
         let mut store = self.share()?;
         for id in ids {
-            store = store.settle_one(alloc, *id, moment)?;
+            store.settle_one(alloc, *id, moment)?;
         }
         Ok(store)
     }
 
-    // The same of one id.
-    fn settle_one(&self, alloc: Global, id: u64, moment: u64) -> Result<Store, AllocError>
-        ensures { IfOk result (λ store. store ≡ (change_row (only_rows self.now) id (at_moment moment)).rows) }
+    // The same of one id, on the store itself.
+    fn settle_one(&mut self, alloc: Global, id: u64, moment: u64) -> Result<(), AllocError>
+        ensures { OnOk result (self.new ≡ (change_row (only_rows self.old) id (at_moment moment)).rows) }
     {
         match self.row(id) {
-            None => self.share(),
+            None => Ok(()),
             Some(row) => {
                 let mut new = copied(alloc, row)?;
                 new.moment = moment;
-                self.with_changed(alloc, id, new)
+                self.put_changed(alloc, id, new)
             }
         }
     }

@@ -7,6 +7,7 @@ ghost use Rattle.un_store.specs.Edits.{IsReplaced};
 
 use std::alloc::{AllocError, Global};
 use std::marker::Model;
+use std::sync::Arc;
 use un_defs::{Lookup, Refusal, Row};
 use un_pages::Paged;
 
@@ -92,8 +93,19 @@ impl Store {
         requires { row.id ≡ id }
         ensures { IfOk result (IsReplaced self.now id row) }
     {
-        let rows = self.rows.with(alloc, id, row)?;
-        Ok(Store { rows })
+        let mut store = self.share()?;
+        store.put_changed(alloc, id, row)?;
+        Ok(store)
+    }
+
+    /// Puts a row in place of the one with this id, on the store itself.
+    pub(crate) fn put_changed(&mut self, alloc: Global, id: u64, row: Row) -> Result<(), AllocError>
+        requires { row.id ≡ id }
+        ensures { OnOk result (IsReplaced self.old id row self.new) }
+    {
+        let shared = Arc::new(alloc, row)?;
+        self.rows.put(alloc, id, shared)?;
+        Ok(())
     }
 
     /// The store without the row with this id.

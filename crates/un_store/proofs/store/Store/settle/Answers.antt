@@ -12,5 +12,5 @@ loop-id-preserved c =
     let ids = c.args.ids.now in
     let i = c.loop-id.id-index in
     let id = slice_index ids i in
-    c.in_ok-store-2.ensures ∙ ap (map (touched id (at_moment c.args.moment))) c.loop-id.invariant ∙ settled_more id c.args.moment (take i ids) c.args.self.now
+    c.in_ok-settle_one.ensures ∙ ap (map (touched id (at_moment c.args.moment))) c.loop-id.invariant ∙ settled_more id c.args.moment (take i ids) c.args.self.now
     ∙ ap (λ l. settled l c.args.moment c.args.self.now) (sym (take_more ids i 0 c.loop-id-test.true))
