@@ -1,16 +1,15 @@
 -- One node after another is put in.
-use Rattle.std.proofs.Common.{◌≡◌, Bool, true, false, cond, List, [], ◌∷◌, ◌++◌, map, filter, refl, sym, ap, subst, ◌∙◌, if◌then◌else◌}
+use Rattle.std.proofs.Common.{◌≡◌, Bool, true, false, cond, List, [], ◌∷◌, ◌++◌, map, refl, sym, ap, ◌∙◌, if◌then◌else◌}
 use Rattle.std.specs.BTreeSet.{insert_key}
 use Rattle.std.specs.List.Sorted.{IsStrictlySortedBy}
 use Rattle.std.specs.Map.{values_of}
 use Rattle.std.proofs.lemmas.List.{append-nil, append_assoc}
 use Rattle.un_geom.specs.declared.point.Point.{Point}
 use Rattle.un_geom.specs.Places.{same_point}
-use Rattle.un_defs.specs.declared.port.Port.{Port}
 use Rattle.un_defs.specs.declared.port.Node.{Node}
 use Rattle.un_defs.specs.Orders.{rising, port_cmp}
 use Rattle.un_defs.specs.Ports.{standing_at}
-use Rattle.un_defs.proofs.Rising.{Among, rising_unique}
+use Rattle.un_defs.proofs.Rising.{rising_unique}
 use Rattle.un_defs.proofs.Unique.{from_all, point_same, point_itself}
 use Rattle.un_defs.proofs.Near.{false_unless}
 use Rattle.un_defs.proofs.OrderLaws.{port_total, port_ties}

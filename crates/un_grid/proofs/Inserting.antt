@@ -1,27 +1,18 @@
 -- One port more at a point, and the ports of a row.
-use Rattle.std.proofs.Common.{◌≡◌, ◌≢◌, ℕ, zero, suc, ◌<◌, Bool, true, false, not, cond, List, [], ◌∷◌, ◌++◌, map, filter, flat_map, take, length, slice_get, insert, position, Option, Some, None, refl, sym, ap, subst, ◌∙◌, inl, inr, All, if◌then◌else◌, arith}
-use Rattle.std.specs.declared.cmp.Ordering.{Ordering}
-use Rattle.std.specs.declared.cmp.Ordering.TheVariants.{Less, Equal, Greater}
-use Rattle.std.specs.Ordering.{is_gt, match_ordering}
-use Rattle.std.specs.Map.{values_of}
+use Rattle.std.proofs.Common.{◌≡◌, List, [], ◌∷◌, ◌++◌, map, flat_map, refl, sym, ap, ◌∙◌, inl, inr}
 use Rattle.std.specs.BTreeSet.{insert_key}
-use Rattle.std.specs.BTreeMap.{insert_entry}
-use Rattle.std.specs.List.Sorted.{IsStrictlySortedBy}
 use Rattle.std.proofs.lemmas.List.{append_assoc}
-use Rattle.un_geom.specs.declared.point.Point.{Point}
 use Rattle.un_geom.specs.Places.{same_point}
 use Rattle.un_defs.specs.declared.port.Port.{Port}
 use Rattle.un_defs.specs.declared.port.Node.{Node}
 use Rattle.un_defs.specs.declared.row.Row.{Row}
-use Rattle.un_defs.specs.Features.{Features}
 use Rattle.un_defs.specs.Orders.{rising, port_cmp}
-use Rattle.un_defs.specs.Ports.{nodes, nodes_of, standing_at, ports}
-use Rattle.un_defs.specs.Change.{add_row}
-use Rattle.un_defs.proofs.Rising.{Among, rising_same, among-rising, among_from-rising, sorted-rising}
+use Rattle.un_defs.specs.Ports.{nodes, nodes_of, standing_at}
+use Rattle.un_defs.proofs.Rising.{Among, rising_same, among-rising, among_from-rising}
 use Rattle.un_defs.proofs.Members.{among_left, among_right, among_cases}
 use Rattle.un_defs.proofs.OrderLaws.{port_total, port_ties}
 use Rattle.un_defs.proofs.ListLemmas.{filter-append}
-use Rattle.un_grid.specs.Grids.{ports_in, HasRow, IsGridOf, InsertLaw}
+use Rattle.un_grid.specs.Grids.{InsertLaw}
 
 -- two lists with the same ports are one when sorted
 same : (xs ys : List Port) → ((q : Port) → Among xs q → Among ys q) → ((q : Port) → Among ys q → Among xs q) → rising port_cmp xs ≡ rising port_cmp ys

@@ -25,3 +25,4 @@ mod tests;
 
 pub use grid::Grid;
 pub use laws::insert_law;
+pub use nodes::port_node;

@@ -1,7 +1,7 @@
 //! The ports of a row with their points.
 ghost use Rattle.std.specs.Prelude.{◌≡◌, ◌++◌, IfOk, OnOk, option_to_list};
 ghost use Rattle.std.specs.List.{range_with_len};
-ghost use Rattle.un_grid.specs.Numbers.{first_number};
+ghost use Rattle.un_grid.specs.Numbers.{first_number, has_port, port_node};
 ghost use Rattle.un_defs.specs.Ports.{nodes_of, node_of, port_numbers_of, shape_place};
 
 use std::alloc::{AllocError, Global};
@@ -51,6 +51,25 @@ fn node_of(row: &Row, number: u8) -> Option<Node>
         },
         at: *at,
     })
+}
+
+// The row has a port with the number.
+fn has_port(row: &Row, number: u8) -> bool
+    ensures { result ≡ has_port row.now number }
+{
+    let first = first_number(row.class);
+    first <= number && number - first < port_count(row)
+}
+
+/// The row's port with the number, with its point, if the row has it.
+pub fn port_node(row: &Row, number: u8) -> Option<Node>
+    ensures { result ≡ port_node row.now number }
+{
+    if has_port(row, number) {
+        node_of(row, number)
+    } else {
+        None
+    }
 }
 
 fn add(nodes: &mut Vec<Node>, node: Option<Node>) -> Result<(), AllocError>

@@ -1,4 +1,4 @@
-use Rattle.std.proofs.Common.{◌≡◌, ◌++◌, ◌∙◌, filter_map, option_to_list, sym, ap, arith}
+use Rattle.std.proofs.Common.{◌≡◌, ◌++◌, ◌∙◌, filter_map, option_to_list, ap, arith}
 use Rattle.std.specs.List.{range_with_len}
 use Rattle.un_defs.specs.Ports.{node_of}
 use Rattle.un_grid.proofs.Numbered.{one_more}

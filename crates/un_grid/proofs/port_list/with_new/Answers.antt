@@ -1,4 +1,4 @@
-use Rattle.std.proofs.Common.{◌≡◌, ◌∙◌}
+use Rattle.std.proofs.Common.{◌∙◌}
 use Rattle.un_grid.proofs.Places.{placed}
 use Rattle.un_grid.proofs.port_list.with_new.Goals as goal
 

@@ -1,4 +1,4 @@
-use Rattle.std.proofs.Common.{◌≡◌, ◌∙◌, ap}
+use Rattle.std.proofs.Common.{◌∙◌, ap}
 use Rattle.std.specs.BTreeSet.{insert_key}
 use Rattle.un_defs.specs.Orders.{port_cmp}
 use Rattle.un_grid.proofs.Putting.{put_port, put_grid}

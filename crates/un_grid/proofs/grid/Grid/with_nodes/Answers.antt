@@ -1,4 +1,4 @@
-use Rattle.std.proofs.Common.{◌≡◌, take, take_all, sym, subst}
+use Rattle.std.proofs.Common.{take, take_all, sym, subst}
 use Rattle.std.proofs.lemmas.List.{take_more}
 use Rattle.un_grid.specs.Grids.{HasNodes}
 use Rattle.un_grid.proofs.Gathering.{none_yet, one_more}
