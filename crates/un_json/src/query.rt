@@ -1,10 +1,11 @@
 //! Queries, by their word.
-ghost use Rattle.std.specs.Prelude.{◌≡◌, [], ◌∷◌, Ok, IfOk, IfErr};
+ghost use Rattle.std.specs.Prelude.{◌≡◌, [], ◌∷◌, Ok, None, true, IfOk, IfErr};
 ghost use Rattle.serde_json.specs.View.{view};
 ghost use Rattle.un_schema.specs.declared.place.Place.TheVariants as place;
-ghost use Rattle.un_json.specs.Rows.{Blames, needed, answers};
-ghost use Rattle.un_json.specs.Table.{query_answer, trace_row, takes_starts, takes_tier, takes_subnet, takes_isolators, takes_consistent, takes_include};
-ghost use Rattle.un_json.specs.Forms.{kind_of};
+ghost use Rattle.serde_json.specs.Find.{as_bool};
+ghost use Rattle.un_json.specs.Rows.{Blames, needed, needed_when, optional_when, answers};
+ghost use Rattle.un_json.specs.Table.{query_answer, trace_row, takes_starts, takes_tier, takes_subnet, takes_isolators, takes_consistent, takes_include, some_name_of};
+ghost use Rattle.un_json.specs.Forms.{kind_of, starts_of, some_condition_of, include_of, functions_of, nothing};
 ghost use Rattle.un_json.specs.declared.words.QueryWord.TheVariants as asks;
 
 use crate::condition::{Barrier, Condition};
@@ -16,7 +17,7 @@ use crate::scalar::{Base, Id, Kinds, Named, SomeName, Truth};
 use crate::words::QueryWord;
 use serde_json::Value;
 use std::alloc::Global;
-use un_ask::{Asked, NamedFuncs, Place, Query, TraceAsk, TraceKind};
+use un_ask::{Asked, Include, Name, NamedFuncs, Place, Query, RawCondition, TraceAsk, TraceKind};
 use un_defs::port::Ports;
 
 fn read_version(alloc: Global, object: &Value) -> Result<Query, ReadFault>
@@ -101,47 +102,17 @@ fn read_trace_of(alloc: Global, kind: TraceKind, object: &Value) -> Result<Query
     ensures ok { IfOk result (λ query. answers place.Ask (trace_row kind) (view object.now) ≡ Ok query) }
     ensures err { IfErr result (λ e. Blames e (answers place.Ask (trace_row kind) (view object.now))) }
 {
-    let starts = need_when::<Starts>(
-        takes_starts(kind),
-        alloc,
-        object,
-        Place::Starts,
-        no_ports(alloc),
-    )?;
-    let tier = need_when::<SomeName>(takes_tier(kind), alloc, object, Place::Tier, None)?;
-    let subnet = need_when::<SomeName>(takes_subnet(kind), alloc, object, Place::Subnet, None)?;
-    let isolators = need_when::<Condition>(
-        takes_isolators(kind),
-        alloc,
-        object,
-        Place::Isolators,
-        None,
-    )?;
+    let starts = read_starts(alloc, kind, object)?;
+    let tier = read_tier(alloc, kind, object)?;
+    let subnet = read_subnet_of(alloc, kind, object)?;
+    let isolators = read_isolators(alloc, kind, object)?;
     let barriers = may::<Barrier>(alloc, object, Place::Barriers, None)?;
     let stops = may::<Stops>(alloc, object, Place::Stops, no_ports(alloc))?;
-    let consistent = may_when::<Truth>(
-        takes_consistent(kind),
-        alloc,
-        object,
-        Place::Consistent,
-        true,
-    )?;
-    let include = may_when::<Inclusions>(
-        takes_include(kind),
-        alloc,
-        object,
-        Place::Include,
-        nothing(),
-    )?;
-    let functions = may_when::<Functions>(
-        takes_include(kind),
-        alloc,
-        object,
-        Place::Functions,
-        no_functions(alloc),
-    )?;
+    let consistent = read_consistent(alloc, kind, object)?;
+    let include = read_include(alloc, kind, object)?;
+    let functions = read_functions(alloc, kind, object)?;
     let seen = may::<Base>(alloc, object, Place::Seen, 0)?;
-    only(object, allowed(kind))?;
+    only(object, members_of(kind))?;
     let trace = TraceAsk {
         kind,
         starts,
@@ -160,115 +131,183 @@ fn read_trace_of(alloc: Global, kind: TraceKind, object: &Value) -> Result<Query
     })
 }
 
-/// The names of the members of a trace of a kind.
-fn allowed(kind: TraceKind) -> &'static [Place]
-    ensures { result.now ≡ place.Ask ∷ (trace_row kind).places }
+/// The ports from which the trace starts.
+fn read_starts(alloc: Global, kind: TraceKind, object: &Value) -> Result<Ports, ReadFault>
+    ensures ok { IfOk result
+        (λ ports. needed_when (takes_starts kind) place.Starts starts_of [] (view object.now) ≡ Ok ports) }
+    ensures err { IfErr result
+        (λ e. Blames e (needed_when (takes_starts kind) place.Starts starts_of [] (view object.now))) }
 {
-    match kind {
-        TraceKind::Connected => &[
-            Place::Ask,
-            Place::Type,
-            Place::Starts,
-            Place::Barriers,
-            Place::Stops,
-            Place::Consistent,
-            Place::Include,
-            Place::Functions,
-            Place::Seen,
-        ],
-        TraceKind::Subnetwork => &[
-            Place::Ask,
-            Place::Type,
-            Place::Tier,
-            Place::Subnet,
-            Place::Barriers,
-            Place::Stops,
-            Place::Consistent,
-            Place::Include,
-            Place::Functions,
-            Place::Seen,
-        ],
-        TraceKind::Controllers => &[
-            Place::Ask,
-            Place::Type,
-            Place::Starts,
-            Place::Tier,
-            Place::Barriers,
-            Place::Stops,
-            Place::Consistent,
-            Place::Seen,
-        ],
-        TraceKind::Upstream | TraceKind::Downstream => &[
-            Place::Ask,
-            Place::Type,
-            Place::Starts,
-            Place::Tier,
-            Place::Barriers,
-            Place::Stops,
-            Place::Consistent,
-            Place::Include,
-            Place::Functions,
-            Place::Seen,
-        ],
-        TraceKind::Loops => &[
-            Place::Ask,
-            Place::Type,
-            Place::Starts,
-            Place::Barriers,
-            Place::Stops,
-            Place::Seen,
-        ],
-        TraceKind::Isolation => &[
-            Place::Ask,
-            Place::Type,
-            Place::Starts,
-            Place::Tier,
-            Place::Isolators,
-            Place::Barriers,
-            Place::Stops,
-            Place::Seen,
-        ],
-    }
+    let taken = !matches!(kind, TraceKind::Subnetwork);
+    need_when::<Starts>(taken, alloc, object, Place::Starts, no_ports(alloc))
 }
 
-fn takes_starts(kind: TraceKind) -> bool
-    ensures { result ≡ takes_starts kind }
+/// The tier whose barriers hold.
+fn read_tier(alloc: Global, kind: TraceKind, object: &Value) -> Result<Option<Name>, ReadFault>
+    ensures ok { IfOk result
+        (λ tier. needed_when (takes_tier kind) place.Tier some_name_of None (view object.now) ≡ Ok tier) }
+    ensures err { IfErr result
+        (λ e. Blames e (needed_when (takes_tier kind) place.Tier some_name_of None (view object.now))) }
 {
-    !matches!(kind, TraceKind::Subnetwork)
+    let taken = !matches!(kind, TraceKind::Connected | TraceKind::Loops);
+    need_when::<SomeName>(taken, alloc, object, Place::Tier, None)
 }
 
-fn takes_tier(kind: TraceKind) -> bool
-    ensures { result ≡ takes_tier kind }
+/// The subnetwork from whose controllers the trace starts.
+fn read_subnet_of(alloc: Global, kind: TraceKind, object: &Value) -> Result<Option<Name>, ReadFault>
+    ensures ok { IfOk result
+        (λ subnet. needed_when (takes_subnet kind) place.Subnet some_name_of None (view object.now) ≡ Ok subnet) }
+    ensures err { IfErr result
+        (λ e. Blames e (needed_when (takes_subnet kind) place.Subnet some_name_of None (view object.now))) }
 {
-    !matches!(kind, TraceKind::Connected | TraceKind::Loops)
+    let taken = matches!(kind, TraceKind::Subnetwork);
+    need_when::<SomeName>(taken, alloc, object, Place::Subnet, None)
 }
 
-fn takes_subnet(kind: TraceKind) -> bool
-    ensures { result ≡ takes_subnet kind }
+/// What isolates.
+fn read_isolators(
+    alloc: Global,
+    kind: TraceKind,
+    object: &Value,
+) -> Result<Option<RawCondition>, ReadFault>
+    ensures ok { IfOk result
+        (λ isolators. needed_when (takes_isolators kind) place.Isolators some_condition_of None (view object.now) ≡ Ok isolators) }
+    ensures err { IfErr result
+        (λ e. Blames e (needed_when (takes_isolators kind) place.Isolators some_condition_of None (view object.now))) }
 {
-    matches!(kind, TraceKind::Subnetwork)
+    let taken = matches!(kind, TraceKind::Isolation);
+    need_when::<Condition>(taken, alloc, object, Place::Isolators, None)
 }
 
-fn takes_isolators(kind: TraceKind) -> bool
-    ensures { result ≡ takes_isolators kind }
+/// Whether the trace is consistent.
+fn read_consistent(alloc: Global, kind: TraceKind, object: &Value) -> Result<bool, ReadFault>
+    ensures ok { IfOk result
+        (λ consistent. optional_when (takes_consistent kind) place.Consistent as_bool true (view object.now) ≡ Ok consistent) }
+    ensures err { IfErr result
+        (λ e. Blames e (optional_when (takes_consistent kind) place.Consistent as_bool true (view object.now))) }
 {
-    matches!(kind, TraceKind::Isolation)
+    let taken = !matches!(kind, TraceKind::Loops | TraceKind::Isolation);
+    may_when::<Truth>(taken, alloc, object, Place::Consistent, true)
 }
 
-fn takes_consistent(kind: TraceKind) -> bool
-    ensures { result ≡ takes_consistent kind }
+/// What the trace tells besides its features.
+fn read_include(alloc: Global, kind: TraceKind, object: &Value) -> Result<Include, ReadFault>
+    ensures ok { IfOk result
+        (λ include. optional_when (takes_include kind) place.Include include_of nothing (view object.now) ≡ Ok include) }
+    ensures err { IfErr result
+        (λ e. Blames e (optional_when (takes_include kind) place.Include include_of nothing (view object.now))) }
 {
-    !matches!(kind, TraceKind::Loops | TraceKind::Isolation)
+    may_when::<Inclusions>(has_result(kind), alloc, object, Place::Include, nothing())
+}
+
+/// The functions over the features of the trace.
+fn read_functions(alloc: Global, kind: TraceKind, object: &Value) -> Result<NamedFuncs, ReadFault>
+    ensures ok { IfOk result
+        (λ functions. optional_when (takes_include kind) place.Functions functions_of [] (view object.now) ≡ Ok functions) }
+    ensures err { IfErr result
+        (λ e. Blames e (optional_when (takes_include kind) place.Functions functions_of [] (view object.now))) }
+{
+    may_when::<Functions>(
+        has_result(kind),
+        alloc,
+        object,
+        Place::Functions,
+        no_functions(alloc),
+    )
 }
 
 /// Whether a trace of the kind has a result, which may tell more and has functions.
-fn takes_include(kind: TraceKind) -> bool
+fn has_result(kind: TraceKind) -> bool
     ensures { result ≡ takes_include kind }
 {
     matches!(
         kind,
         TraceKind::Connected | TraceKind::Subnetwork | TraceKind::Upstream | TraceKind::Downstream
     )
+}
+
+const MEMBERS_OF_CONNECTED: [Place; 9] = [
+    Place::Ask,
+    Place::Type,
+    Place::Starts,
+    Place::Barriers,
+    Place::Stops,
+    Place::Consistent,
+    Place::Include,
+    Place::Functions,
+    Place::Seen,
+];
+
+const MEMBERS_OF_SUBNETWORK: [Place; 10] = [
+    Place::Ask,
+    Place::Type,
+    Place::Tier,
+    Place::Subnet,
+    Place::Barriers,
+    Place::Stops,
+    Place::Consistent,
+    Place::Include,
+    Place::Functions,
+    Place::Seen,
+];
+
+const MEMBERS_OF_CONTROLLERS: [Place; 8] = [
+    Place::Ask,
+    Place::Type,
+    Place::Starts,
+    Place::Tier,
+    Place::Barriers,
+    Place::Stops,
+    Place::Consistent,
+    Place::Seen,
+];
+
+/// The members of a trace against the flow, and of one with it.
+const MEMBERS_OF_STREAM: [Place; 10] = [
+    Place::Ask,
+    Place::Type,
+    Place::Starts,
+    Place::Tier,
+    Place::Barriers,
+    Place::Stops,
+    Place::Consistent,
+    Place::Include,
+    Place::Functions,
+    Place::Seen,
+];
+
+const MEMBERS_OF_LOOPS: [Place; 6] = [
+    Place::Ask,
+    Place::Type,
+    Place::Starts,
+    Place::Barriers,
+    Place::Stops,
+    Place::Seen,
+];
+
+const MEMBERS_OF_ISOLATION: [Place; 8] = [
+    Place::Ask,
+    Place::Type,
+    Place::Starts,
+    Place::Tier,
+    Place::Isolators,
+    Place::Barriers,
+    Place::Stops,
+    Place::Seen,
+];
+
+/// The names of the members of a trace of a kind.
+fn members_of(kind: TraceKind) -> &'static [Place]
+    ensures { result.now ≡ place.Ask ∷ (trace_row kind).places }
+{
+    match kind {
+        TraceKind::Connected => &MEMBERS_OF_CONNECTED,
+        TraceKind::Subnetwork => &MEMBERS_OF_SUBNETWORK,
+        TraceKind::Controllers => &MEMBERS_OF_CONTROLLERS,
+        TraceKind::Upstream | TraceKind::Downstream => &MEMBERS_OF_STREAM,
+        TraceKind::Loops => &MEMBERS_OF_LOOPS,
+        TraceKind::Isolation => &MEMBERS_OF_ISOLATION,
+    }
 }
 
 fn no_ports(alloc: Global) -> Ports
