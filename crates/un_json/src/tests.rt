@@ -1,9 +1,25 @@
-use crate::{ReadFault, read_request};
-use std::alloc::Global;
+//! Texts are written with `'` in place of `"`.
 
-// What a text is: a request, no JSON value, or the place where it is bad.
-fn outcome(alloc: Global, text: &[u8]) -> &'static str {
-    match read_request(alloc, text) {
+use crate::{ReadFault, read_request};
+use std::alloc::{AllocError, Global};
+
+mod commands;
+mod edits;
+mod queries;
+mod texts;
+mod traces;
+
+fn with_double_quotes(alloc: Global, text: &str) -> Result<Vec<u8>, AllocError> {
+    let mut bytes = Vec::new(alloc);
+    for byte in text.as_bytes() {
+        bytes.push(if *byte == b'\'' { b'"' } else { *byte })?;
+    }
+    Ok(bytes)
+}
+
+// What bytes are: a request, no JSON value, or the place where they are bad.
+fn outcome_of_bytes(alloc: Global, bytes: &[u8]) -> &'static str {
+    match read_request(alloc, bytes) {
         Ok(_) => "good",
         Err(ReadFault::NotJson) => "json",
         Err(ReadFault::BadRequest { place }) => place.text(),
@@ -11,25 +27,20 @@ fn outcome(alloc: Global, text: &[u8]) -> &'static str {
     }
 }
 
-#[test]
-fn texts_are_requests_or_have_a_bad_place(rt: HostRuntime) {
-    assert_eq!(rt; outcome(rt.alloc(), b"{\"ask\":\"version\"}"), "good");
-    assert_eq!(rt;
-        outcome(rt.alloc(), b"{\"ask\":\"version\",\"id\":1}"),
-        "extra"
-    );
-    assert_eq!(rt;
-        outcome(rt.alloc(), b"{\"ask\":\"version\",\"seen\":-0}"),
-        "seen"
-    );
-    assert_eq!(rt;
-        outcome(rt.alloc(), b"{\"do\":\"delete\",\"id\":0,\"base\":-1}"),
-        "id"
-    );
-    assert_eq!(rt;
-        outcome(rt.alloc(), b"{\"do\":\"validate\",\"extent\":[1,0,0,0]}"),
-        "extent"
-    );
-    assert_eq!(rt; outcome(rt.alloc(), b"[]"), "");
-    assert_eq!(rt; outcome(rt.alloc(), b"{"), "json");
+fn outcome(alloc: Global, text: &str) -> &'static str {
+    match with_double_quotes(alloc, text) {
+        Ok(bytes) => outcome_of_bytes(alloc, bytes.as_slice()),
+        Err(_) => "memory",
+    }
+}
+
+// The first of the texts that is something else than what stands beside it.
+fn first_other(alloc: Global, rows: &[(&str, &str)]) -> Option<usize> {
+    for index in 0..rows.len() {
+        let (text, wanted) = rows[index];
+        if outcome(alloc, text) != wanted {
+            return Some(index);
+        }
+    }
+    None
 }
