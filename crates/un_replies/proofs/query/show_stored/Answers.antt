@@ -7,8 +7,8 @@ pub returns-clause-ok : goal.returns-clause-ok
 returns-clause-ok c =
     let step0 = c.in_ok-string_member.ensures.ok in
     let step1 = rw c.status_text.ensures at c.in_ok-string_member-2.ensures.ok in
-    let step2 = rw c.text.ensures at c.in_ok-string_member-3.ensures.ok in
-    let step3 = rw c.text-2.ensures at c.in_ok-string_member-4.ensures.ok in
+    let step2 = rw c.text.ensures.text at c.in_ok-string_member-3.ensures.ok in
+    let step3 = rw c.text-2.ensures.text at c.in_ok-string_member-4.ensures.ok in
     let step4 = c.in_ok-count_member.ensures.ok in
     let step5 = c.in_ok-count_member-2.ensures.ok in
     on_ok c.end_object.result (c.end_object.new.self.tokens ≡ c.count_member-2.new.out.tokens ++ end_object ∷ []) _ c.end_object.ensures.ok (λ last.
