@@ -5,3 +5,7 @@ pub mod Groups
 pub mod CommandTexts
 pub mod Commands
 pub mod Shows
+mod NumbersRead
+mod Formed
+mod FormedReplies
+pub mod ReadBack

@@ -63,14 +63,14 @@ whole_decimal zero h = let e = decimal_digit 0 (omega arith) in (ap after_whole 
 whole_decimal (suc n) h =
     whole_digits (decimal (suc n)) (first_digit (suc n) (omega arith) h) (all_digits _ (λ i l. digit_at _ i (decimal_is_IsNumeral_wide (suc n) h).0.1 l))
 
-number_decimal : (n : ℕ) → n < 10 ^ 64 → IsNumber (decimal n)
+pub number_decimal : (n : ℕ) → n < 10 ^ 64 → IsNumber (decimal n)
 unfolding after_number
 number_decimal n h =
     let w = whole_decimal n h in
     ap (λ o. option_and_then after_exponent (option_and_then after_fraction o))
     (ap (λ b. after_whole (cond b (drop 1 (decimal n)) (decimal n))) w.1 ∙ w.0)
 
-number_negative : (n : ℕ) → n < 10 ^ 64 → IsNumber (45 ∷ decimal n)
+pub number_negative : (n : ℕ) → n < 10 ^ 64 → IsNumber (45 ∷ decimal n)
 unfolding after_number
 number_negative n h = ap (λ o. option_and_then after_exponent (option_and_then after_fraction o)) (whole_decimal n h).0
 

@@ -1,5 +1,6 @@
 pub mod Values
 pub mod Refusals
 pub mod Replies
+pub mod ReadBack
 pub mod Commands
 pub mod Pieces

@@ -5,6 +5,7 @@
 
 mod command;
 mod feature;
+pub mod laws;
 mod member;
 mod print;
 mod put;
