@@ -9,3 +9,5 @@ mod NumbersRead
 mod Formed
 mod FormedReplies
 pub mod ReadBack
+mod Utf8
+pub mod Utf8Replies

@@ -1,9 +1,13 @@
 -- What a printed reply is read back as.
-use Rattle.std.specs.Prelude.{◌≡◌, ℕ, ◌^◌, ◌<◌, List, Bool, true, nat_lt, nat_le, nat_abs, if◌then◌else◌, Some, IsTrue, IsUtf8, ⊤}
+use Rattle.std.specs.Prelude.{◌≡◌, ℕ, ◌^◌, ◌<◌, List, Bool, true, nat_lt, nat_le, nat_abs, if◌then◌else◌, Some, IfSome, All, IsTrue, IsUtf8, ⊤}
 use Rattle.serde_json.specs.Data.{Num, unsigned, negative, float, Data, null, boolean, number, string, array, object, Items, no_items, item, Members, no_members, member}
 use Rattle.serde_json.specs.Find.{to_float}
 use Rattle.serde_json.specs.Read.{read}
+use Rattle.un_defs.specs.declared.refusal.Refusal.{Refusal}
+use Rattle.un_defs.specs.declared.refusal.Refusal.TheVariants as refusal
+use Rattle.un_ask.specs.declared.reply.FeatureReply.{FeatureReply}
 use Rattle.un_ask.specs.declared.reply.Reply.{Reply}
+use Rattle.un_ask.specs.declared.reply.Reply.TheVariants as reply
 use Rattle.un_replies.specs.Replies.{shown, print}
 
 -- ---- numbers
@@ -68,23 +72,28 @@ abbrev mutual
   EachMemberNumber P no_members = ⊤
   EachMemberNumber P (member k d ms) = EachNumber P d × EachMemberNumber P ms
 
--- P holds of each text in the value, and of the name of each member
-abbrev mutual
-  pub EachText : (List ℕ → Type 0) → Data → Type 0
-  EachText P null = ⊤
-  EachText P (boolean b) = ⊤
-  EachText P (number n) = ⊤
-  EachText P (string s) = P s
-  EachText P (array ds) = EachItemText P ds
-  EachText P (object ms) = EachMemberText P ms
+-- ---- texts of replies
 
-  pub EachItemText : (List ℕ → Type 0) → Items → Type 0
-  EachItemText P no_items = ⊤
-  EachItemText P (item d ds) = EachText P d × EachItemText P ds
+-- the name that the refusal carries, if it carries one, is UTF-8
+abbrev pub HasUtf8Name : Refusal → Type 0
+HasUtf8Name (refusal.NoSuchKind kind) = IsUtf8 kind
+HasUtf8Name (refusal.BadAttribute attribute) = IsUtf8 attribute
+HasUtf8Name (refusal.Conflict subnet feature port) = IsUtf8 subnet
+HasUtf8Name other = ⊤
 
-  pub EachMemberText : (List ℕ → Type 0) → Members → Type 0
-  EachMemberText P no_members = ⊤
-  EachMemberText P (member k d ms) = P k × (EachText P d × EachMemberText P ms)
+pub record FeatureHasUtf8 (f : FeatureReply) : Type 0 where
+  pub attrs : All (λ pair. IsUtf8 pair.0) f.attrs
+  pub kind : IsUtf8 f.kind
+  pub note : IsUtf8 f.note
+  pub path : IfSome f.path IsUtf8
+
+-- the names and the note in the reply are UTF-8, as a `Name` and a `Note` of Rust hold
+abbrev pub HasUtf8Texts : Reply → Type 0
+HasUtf8Texts (reply.Feature feature version) = FeatureHasUtf8 feature
+HasUtf8Texts (reply.Subnet controllers members status subnet tier updated version) = IsUtf8 subnet × IsUtf8 tier
+HasUtf8Texts (reply.Controllers controllers version) = All (λ c. IsUtf8 c.subnet) controllers
+HasUtf8Texts (reply.Refused refusal edit version) = HasUtf8Name refusal
+HasUtf8Texts other = ⊤
 
 -- ---- laws
 
@@ -98,4 +107,4 @@ WideReadBackLaw = (reply : Reply) → EachNumber HasFewBits (shown reply) → re
 
 -- what is printed of a reply is UTF-8, as a reader of bytes asks
 abbrev pub Utf8Law : Type 0
-Utf8Law = (reply : Reply) → EachText IsUtf8 (shown reply) → IsUtf8 (print reply)
+Utf8Law = (reply : Reply) → HasUtf8Texts reply → IsUtf8 (print reply)

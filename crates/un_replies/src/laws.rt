@@ -2,10 +2,11 @@
 
 ghost use Rattle.un_replies.specs.ReadBack.{ReadBackLaw, WideReadBackLaw, Utf8Law};
 
-/// What is printed of a reply is JSON, and `serde_json` reads it as the reply's value. A number of more than 64 bits, as the sum of a
-/// function may be, is read as the nearest float.
-#[tactic(auto, using(crate::proofs::ReadBack::read_back, crate::proofs::ReadBack::wide_read_back))]
+/// What is printed of a reply is JSON in UTF-8, and `serde_json` reads it as the reply's value. A number of more than 64 bits, as the sum
+/// of a function may be, is read as the nearest float.
+#[tactic(auto, using(crate::proofs::ReadBack::read_back, crate::proofs::ReadBack::wide_read_back, crate::proofs::Utf8Replies::replies_are_utf8))]
 pub fn replies_are_read_back()
     ensures short { ReadBackLaw }
     ensures wide { WideReadBackLaw }
+    ensures utf8 { Utf8Law }
 {}

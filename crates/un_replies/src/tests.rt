@@ -14,6 +14,7 @@ use un_defs::port::Ports;
 use un_schema::Name;
 
 mod queries;
+mod read_back;
 mod refusals;
 
 // Whether the reply is printed so.

@@ -54,7 +54,7 @@ fn errors_with_their_points(rt: HostRuntime) -> Result<(), Fail> {
 }
 
 #[tactic(auto, using(crate::proofs::Shows::one_named))]
-fn feature(alloc: Global) -> Result<FeatureReply, Fail> {
+pub(super) fn feature(alloc: Global) -> Result<FeatureReply, Fail> {
     let attrs = vec![in alloc; (name(alloc, "length")?, -5)]?;
     let note = Note::new(String::from_str(alloc, "a \"b\"\n")?).ok_or("no note")?;
     let points = vec![in alloc; Point { x: 0, y: -1, z: 2 }, Point { x: 3, y: 4, z: 5 }]?;
@@ -111,7 +111,7 @@ fn a_stored_subnetwork(rt: HostRuntime) -> Result<(), Fail> {
     Ok(())
 }
 
-fn traced(alloc: Global) -> Result<ResultReply, Fail> {
+pub(super) fn traced(alloc: Global) -> Result<ResultReply, Fail> {
     let numbers = Numbers::new(vec![in alloc; 0, 2]?);
     let features = vec![in alloc;
         Part {
