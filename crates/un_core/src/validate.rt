@@ -77,7 +77,7 @@ impl Net {
         for point in points {
             let star = star_at(alloc, &live, *point)?;
             errors = with_errors(errors, &star)?;
-            kept = kept.replace(alloc, *point, star)?;
+            kept.put(alloc, *point, star)?;
         }
         let _len = kept.len();
         Ok(Rebuilt { kept, errors })

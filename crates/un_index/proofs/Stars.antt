@@ -1,5 +1,5 @@
 -- Lists of kept stars, of which none is empty.
-use Rattle.std.proofs.Common.{◌≡◌, ◌↔◌, ℕ, zero, suc, ◌+◌, ◌<◌, Bool, true, false, cond, ◌&&◌, ◌==◌, List, [], ◌∷◌, ◌++◌, map, flat_map, take, get_or, length, IsNone, unwrap_or, Option, Some, None, IfSome, IfNone, IfOk, Result, Ok, Err, refl, sym, ◌∙◌, ap, subst, arith, append_assoc, eqb-true, true≢false}
+use Rattle.std.proofs.Common.{◌≡◌, ◌↔◌, ℕ, zero, suc, ◌+◌, ◌<◌, Bool, true, false, cond, ◌&&◌, ◌==◌, List, [], ◌∷◌, ◌++◌, map, flat_map, take, get_or, length, IsNone, unwrap_or, Option, Some, None, IfSome, IfNone, OnOk, OnErr, Result, Ok, Err, refl, sym, ◌∙◌, ap, subst, arith, append_assoc, eqb-true, true≢false}
 use Rattle.std.specs.declared.cmp.Ordering.TheVariants.{Less, Equal, Greater}
 use Rattle.std.specs.Ordering.{is_eq, match_ordering}
 use Rattle.std.specs.Option.{option_copied}
@@ -84,9 +84,10 @@ pub stars_without : (m n : List (Point × Star)) (p q : Point) (s : Star) → is
 stars_without m n p q s empty e =
     ap (λ o. unwrap_or o empty_star) e ∙ emptied (same_point q p) empty_star (value_at q m) ∙ ap (λ t. cond (same_point q p) t (stars_of m q)) (sym (empty_is s empty))
 
-pub on_ok : {A E : Type 0} (r : Result A E) {P Q : A → Type 0} → ((x : A) → P x → Q x) → IfOk r P → IfOk r Q
-on_ok (Ok x) f h = f x h
-on_ok (Err e) f h = tt
+-- no star is empty after a change that leaves the old ones or gives the stars after it
+pub kept_after : {A E : Type 0} (r : Result A E) (old new after : List (Point × Star)) → AreStars old → AreStars after → OnOk r (new ≡ after) → OnErr r (new ≡ old) → AreStars new
+kept_after (Ok x) old new after was is ok err = subst AreStars (sym ok) is
+kept_after (Err e) old new after was is ok err = subst AreStars (sym err) was
 
 -- ---- errors, one star after another
 

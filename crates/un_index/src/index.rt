@@ -1,5 +1,5 @@
 // The map.
-ghost use Rattle.std.specs.Prelude.{◌≡◌, ◌↔◌, ◌++◌, [], map, flat_map, length, IfOk, IfSome, IfNone, IsNone, if◌then◌else◌};
+ghost use Rattle.std.specs.Prelude.{◌≡◌, ◌↔◌, ◌++◌, [], map, flat_map, length, IfOk, OnOk, OnErr, IfSome, IfNone, IsNone, if◌then◌else◌};
 ghost use Rattle.std.specs.Arc.{arc_value};
 ghost use Rattle.un_geom.specs.declared.point.Point.{Point};
 ghost use Rattle.un_geom.specs.Places.{same_point};
@@ -14,7 +14,7 @@ use un_defs::{Star, TopoError};
 use un_geom::{Point, Rect};
 use un_points::PointMap;
 
-/// The kept topology. It never changes: each call that would change it gives a new one.
+/// The kept topology. `put` changes it, and none of those that share its pages.
 #[derive(Drop)]
 pub struct Index {
     stars: PointMap<Star>,
@@ -60,14 +60,15 @@ impl Index {
         self.stars.get(p)
     }
 
-    /// The topology with this star at the point. An empty star takes the point out.
-    pub fn replace(&self, alloc: Global, p: Point, star: Arc<Star>) -> Result<Index, AllocError>
-        ensures list { IfOk result (λ i. i ≡ replaced self.now p (arc_value star)) }
-        ensures stars { IfOk result (λ i. (q : Point) → stars_of i q ≡ (if same_point q p then arc_value star else stars_of self.now q)) }
+    /// Puts this star at the point. An empty star takes the point out. Pages that no other topology shares are changed in place, and the
+    /// others copied. After an `Err` the topology is as it was.
+    pub fn put(&mut self, alloc: Global, p: Point, star: Arc<Star>) -> Result<(), AllocError>
+        ensures list { OnOk result (self.new ≡ replaced self.old p (arc_value star)) }
+        ensures stars { OnOk result ((q : Point) → stars_of self.new q ≡ (if same_point q p then arc_value star else stars_of self.old q)) }
+        ensures err { OnErr result (self.new ≡ self.old) }
     {
-        Ok(Index {
-            stars: replaced(&self.stars, alloc, p, star)?,
-        })
+        put_star(&mut self.stars, alloc, p, star)?;
+        Ok(())
     }
 
     /// The points at which a star is kept and that the rectangle covers, rising.
@@ -101,21 +102,22 @@ fn is_empty(star: &Star) -> bool
     star.spots.as_slice().is_empty() && star.errors.as_slice().is_empty()
 }
 
-fn replaced(
-    stars: &PointMap<Star>,
+fn put_star(
+    stars: &mut PointMap<Star>,
     alloc: Global,
     p: Point,
     star: Arc<Star>,
-) -> Result<PointMap<Star>, AllocError>
-    requires { AreStars stars.now }
-    ensures list { IfOk result (λ m. m ≡ replaced stars.now p (arc_value star)) }
-    ensures stars { IfOk result (λ m. (q : Point) → stars_of m q ≡ (if same_point q p then arc_value star else stars_of stars.now q)) }
-    ensures kept { IfOk result AreStars }
+) -> Result<(), AllocError>
+    requires { AreStars stars.old }
+    ensures list { OnOk result (stars.new ≡ replaced stars.old p (arc_value star)) }
+    ensures stars { OnOk result ((q : Point) → stars_of stars.new q ≡ (if same_point q p then arc_value star else stars_of stars.old q)) }
+    ensures kept { AreStars stars.new }
+    ensures err { OnErr result (stars.new ≡ stars.old) }
 {
     if is_empty(&star) {
-        return stars.without(alloc, p);
+        return stars.take(alloc, p);
     }
-    stars.with(alloc, p, star)
+    stars.put(alloc, p, star)
 }
 
 fn errors_under(

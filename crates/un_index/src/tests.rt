@@ -29,10 +29,10 @@ fn wrong(alloc: Global, errors: &[TopoError]) -> Result<Arc<Star>, AllocError> {
 fn an_empty_star_takes_the_point_out(rt: HostRuntime) -> Result<(), Fail> {
     let p = Point { x: 1, y: 2, z: 3 };
     let none = Index::new(rt.alloc());
-    let one = none.replace(rt.alloc(), p, wrong(rt.alloc(), &[stacked(4)])?)?;
-    let gone = one
-        .share()?
-        .replace(rt.alloc(), p, wrong(rt.alloc(), &[])?)?;
+    let mut one = none.share()?;
+    one.put(rt.alloc(), p, wrong(rt.alloc(), &[stacked(4)])?)?;
+    let mut gone = one.share()?;
+    gone.put(rt.alloc(), p, wrong(rt.alloc(), &[])?)?;
     assert_eq!(rt; none.len(), 0);
     assert_eq!(rt; one.len(), 1);
     assert_eq!(rt; gone.len(), 0);
@@ -51,14 +51,14 @@ fn errors_under_a_rectangle(rt: HostRuntime) -> Result<(), Fail> {
     let near = Point { x: 0, y: 10, z: 0 };
     let far = Point { x: 10, y: 0, z: 9 };
     let out = Point { x: 5, y: 11, z: 0 };
-    let index = Index::new(rt.alloc())
-        .replace(rt.alloc(), far, wrong(rt.alloc(), &[stacked(3)])?)?
-        .replace(rt.alloc(), out, wrong(rt.alloc(), &[stacked(9)])?)?
-        .replace(
-            rt.alloc(),
-            near,
-            wrong(rt.alloc(), &[stacked(1), stacked(2)])?,
-        )?;
+    let mut index = Index::new(rt.alloc());
+    index.put(rt.alloc(), far, wrong(rt.alloc(), &[stacked(3)])?)?;
+    index.put(rt.alloc(), out, wrong(rt.alloc(), &[stacked(9)])?)?;
+    index.put(
+        rt.alloc(),
+        near,
+        wrong(rt.alloc(), &[stacked(1), stacked(2)])?,
+    )?;
     let square = Rect::new(0, 0, 10, 10).ok_or("square")?;
     let points = index.points(rt.alloc(), square)?;
     assert_eq!(rt; points.as_slice(), [near, far].as_slice());

@@ -21,9 +21,9 @@ loop-point-preserved c =
     let live = c.live-live.result in
     let is : built ≡ fresh_star s p =
     fresh_of s live.schema.now (features_in live.schema.now live.rows.now) p built c.live-live.ensures.schema c.live-live.ensures.features c.in_ok-star.ensures in (
-      subst (λ ps. AreRebuilt s ps c.in_ok-kept-2.kept) (sym more)
-          (rebuilt_more s before p c.loop-point.kept c.in_ok-kept-2.kept built c.loop-point.invariant.0 is c.in_ok-kept-2.ensures.stars),
-      errors_more s before p c.loop-point.kept c.in_ok-kept-2.kept built c.loop-point.errors c.in_ok-errors.errors c.loop-point.invariant.1 is
+      subst (λ ps. AreRebuilt s ps c.put.new.self) (sym more)
+          (rebuilt_more s before p c.loop-point.kept c.put.new.self built c.loop-point.invariant.0 is c.in_ok-put.ensures.stars),
+      errors_more s before p c.loop-point.kept c.put.new.self built c.loop-point.errors c.in_ok-errors.errors c.loop-point.invariant.1 is
           (c.in_ok-errors.ensures.sum ∙ ap (λ (star : Star). c.loop-point.errors + length star.errors) c.deref.ensures)
           ∙ ap (sum_by (λ p. length (fresh_star s p).errors)) (sym more),
     )
