@@ -108,7 +108,7 @@ reached_fresh s is B mode consistent starts nodes reach =
 
 -- ---- the history
 
-history_points : (S : Catalog) (history : List Event) → MayAllHappen S history → (p : Point) → Among (points_before S history) p ⊎ (kept_after S history p ≡ empty_star)
+pub history_points : (S : Catalog) (history : List Event) → MayAllHappen S history → (p : Point) → Among (points_before S history) p ⊎ (kept_after S history p ≡ empty_star)
 history_points S [] may p = inr refl
 history_points S (e ∷ before) may p =
     go (rebuilds S before e p) (fresh_points (after_all S before).catalog (after_all S before).features (all_states S before may.1).sound p) (history_points S before may.1 p)

@@ -19,3 +19,6 @@ pub mod Inserted
 pub mod Pointed
 pub mod Rebuilt
 pub mod Applying
+pub mod Led
+pub mod Clearing
+pub mod HistoryAnswers

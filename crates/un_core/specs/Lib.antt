@@ -10,3 +10,6 @@ pub mod Refusals
 pub mod Commands
 pub mod Answers
 pub mod Traces
+pub mod Led
+pub mod Clearing
+pub mod HistoryAnswers

@@ -3,6 +3,7 @@
 
 pub mod answer;
 pub mod apply;
+pub mod histories;
 mod insert;
 mod kept;
 pub mod laws;
