@@ -12,7 +12,7 @@ use Rattle.serde_json.specs.Data.{Num, unsigned, negative, float, Data, null, bo
 use Rattle.serde_json.specs.Read.{number_of, of_json, of_items, of_members, read, max_depth}
 use Rattle.serde_json.specs.Written.{number_text, outline, items_outline, members_outline, compact_text}
 use Rattle.serde_json.proofs.Texts.{print-outline}
-use Rattle.un_replies.specs.ReadBack.{number_read, value_read, items_read, members_read, HasFewBits, IsShort, EachNumber, EachItemNumber, EachMemberNumber, ReadBackLaw, WideReadBackLaw}
+use Rattle.un_replies.specs.ReadBack.{number_read, value_read, items_read, members_read, Has128Bits, Has64Bits, EachNumber, EachItemNumber, EachMemberNumber, ReadBackLaw, WideReadBackLaw}
 use Rattle.un_replies.specs.Replies.{shown}
 use Rattle.un_replies.proofs.Shows.{number_decimal, number_negative}
 use Rattle.un_replies.proofs.NumbersRead.{number_of-count, number_of-below}
@@ -21,20 +21,20 @@ use Rattle.un_replies.proofs.FormedReplies.{of_reply}
 
 -- ---- numbers
 
-text_is_number : (n : Num) → IsWhole n → HasFewBits n → IsNumber (number_text n)
+text_is_number : (n : Num) → IsWhole n → Has128Bits n → IsNumber (number_text n)
 text_is_number (unsigned n) whole few = number_decimal n (omega arith)
 text_is_number (negative (pos n)) whole few = absurd whole
 text_is_number (negative (negsuc n)) whole few = number_negative (suc n) (omega arith)
 text_is_number (float x) whole few = absurd whole
 
-number_is_read : (n : Num) → IsWhole n → HasFewBits n → number_of (number_text n) ≡ Some (number_read n)
+number_is_read : (n : Num) → IsWhole n → Has128Bits n → number_of (number_text n) ≡ Some (number_read n)
 number_is_read (unsigned n) whole few = number_of-count n few
 number_is_read (negative (pos n)) whole few = absurd whole
 number_is_read (negative (negsuc n)) whole few = number_of-below n few
 number_is_read (float x) whole few = absurd whole
 
 mutual
-  has_numbers : (d : Data) → IsFormed d → EachNumber HasFewBits d → tree.HasNumbers (outline d)
+  has_numbers : (d : Data) → IsFormed d → EachNumber Has128Bits d → tree.HasNumbers (outline d)
   has_numbers null h few = tt
   has_numbers (boolean b) h few = tt
   has_numbers (number n) h few = text_is_number n h few
@@ -42,11 +42,11 @@ mutual
   has_numbers (array ds) h few = items_have_numbers ds h few
   has_numbers (object ms) h few = members_have_numbers ms h few
 
-  items_have_numbers : (ds : Items) → AreFormedItems ds → EachItemNumber HasFewBits ds → tree.ItemsHaveNumbers (items_outline ds)
+  items_have_numbers : (ds : Items) → AreFormedItems ds → EachItemNumber Has128Bits ds → tree.ItemsHaveNumbers (items_outline ds)
   items_have_numbers no_items h few = tt
   items_have_numbers (item d ds) h few = (has_numbers d h.0 few.0, items_have_numbers ds h.1 few.1)
 
-  members_have_numbers : (ms : Members) → AreFormedMembers ms → EachMemberNumber HasFewBits ms → tree.MembersHaveNumbers (members_outline ms)
+  members_have_numbers : (ms : Members) → AreFormedMembers ms → EachMemberNumber Has128Bits ms → tree.MembersHaveNumbers (members_outline ms)
   members_have_numbers no_members h few = tt
   members_have_numbers (member k d ms) h few = (has_numbers d h.0 few.0, members_have_numbers ms h.1.1 few.1)
 
@@ -97,7 +97,7 @@ before_more k d e no_members ms h first = (first, tt)
 before_more k d e (member l f found) ms h first = (h.0.1, before_more k d e found ms h.1 first)
 
 mutual
-  of_json-outline : (d : Data) → IsFormed d → EachNumber HasFewBits d → of_json (outline d) ≡ Some (value_read d)
+  of_json-outline : (d : Data) → IsFormed d → EachNumber Has128Bits d → of_json (outline d) ≡ Some (value_read d)
   of_json-outline null h few = refl
   of_json-outline (boolean b) h few = refl
   of_json-outline (number n) h few = ap (option_map number) (number_is_read n h few)
@@ -105,13 +105,13 @@ mutual
   of_json-outline (array ds) h few = ap (option_map array) (of_items-outline ds h few)
   of_json-outline (object ms) h few = ap (option_map object) (of_members-outline ms no_members tt h few)
 
-  of_items-outline : (ds : Items) → AreFormedItems ds → EachItemNumber HasFewBits ds → of_items (items_outline ds) ≡ Some (items_read ds)
+  of_items-outline : (ds : Items) → AreFormedItems ds → EachItemNumber Has128Bits ds → of_items (items_outline ds) ≡ Some (items_read ds)
   of_items-outline no_items h few = refl
   of_items-outline (item d ds) h few =
       ap (option_and_then (λ e. option_map (item e) (of_items (items_outline ds)))) (of_json-outline d h.0 few.0)
       ∙ ap (option_map (item (value_read d))) (of_items-outline ds h.1 few.1)
 
-  of_members-outline : (ms found : Members) → AreBefore found ms → AreFormedMembers ms → EachMemberNumber HasFewBits ms → of_members (members_outline ms) found ≡ Some (joined found (members_read ms))
+  of_members-outline : (ms found : Members) → AreBefore found ms → AreFormedMembers ms → EachMemberNumber Has128Bits ms → of_members (members_outline ms) found ≡ Some (joined found (members_read ms))
   of_members-outline no_members found first h few = ap Some (sym (joined-no_members found))
   of_members-outline (member k d ms) found first h few =
       let e = value_read d in
@@ -125,7 +125,7 @@ mutual
 tokens-compact_text : (d : Data) → tree.HasNumbers (outline d) → tokens (compact_text d) ≡ tree.json_tokens (outline d)
 tokens-compact_text d h = ap tokens (sym (print-outline d)) ∙ tokens-print _ (ArePrintable-json_tokens (outline d) h)
 
-read-compact_text : (d : Data) → IsFormedTo 4 d → EachNumber HasFewBits d → read (compact_text d) ≡ Some (value_read d)
+read-compact_text : (d : Data) → IsFormedTo 4 d → EachNumber Has128Bits d → read (compact_text d) ≡ Some (value_read d)
 read-compact_text d h few =
     let last = option_and_then (λ (p : json.Json × List Token). json.if_last p.0 p.1) in
     ap (λ ts. option_and_then of_json (last (json.value max_depth ts))) (tokens-compact_text d (has_numbers d h.formed few) ∙ sym (append-nil _))
@@ -134,30 +134,30 @@ read-compact_text d h few =
 
 -- ---- numbers of at most 64 bits
 
-few_bits : (n : Num) → IsShort n → HasFewBits n
-few_bits (unsigned n) h = omega (arith, ltb-true n (2 ^ 64) h)
-few_bits (negative z) h = omega (arith, leb-true (nat_abs z) (2 ^ 63) h)
-few_bits (float x) h = omega arith
+Has128Bits-Has64Bits : (n : Num) → Has64Bits n → Has128Bits n
+Has128Bits-Has64Bits (unsigned n) h = omega (arith, ltb-true n (2 ^ 64) h)
+Has128Bits-Has64Bits (negative z) h = omega (arith, leb-true (nat_abs z) (2 ^ 63) h)
+Has128Bits-Has64Bits (float x) h = omega arith
 
 mutual
-  each_few : (d : Data) → EachNumber IsShort d → EachNumber HasFewBits d
-  each_few null h = tt
-  each_few (boolean b) h = tt
-  each_few (number n) h = few_bits n h
-  each_few (string s) h = tt
-  each_few (array ds) h = each_item_few ds h
-  each_few (object ms) h = each_member_few ms h
+  each_wide : (d : Data) → EachNumber Has64Bits d → EachNumber Has128Bits d
+  each_wide null h = tt
+  each_wide (boolean b) h = tt
+  each_wide (number n) h = Has128Bits-Has64Bits n h
+  each_wide (string s) h = tt
+  each_wide (array ds) h = each_item_wide ds h
+  each_wide (object ms) h = each_member_wide ms h
 
-  each_item_few : (ds : Items) → EachItemNumber IsShort ds → EachItemNumber HasFewBits ds
-  each_item_few no_items h = tt
-  each_item_few (item d ds) h = (each_few d h.0, each_item_few ds h.1)
+  each_item_wide : (ds : Items) → EachItemNumber Has64Bits ds → EachItemNumber Has128Bits ds
+  each_item_wide no_items h = tt
+  each_item_wide (item d ds) h = (each_wide d h.0, each_item_wide ds h.1)
 
-  each_member_few : (ms : Members) → EachMemberNumber IsShort ms → EachMemberNumber HasFewBits ms
-  each_member_few no_members h = tt
-  each_member_few (member k d ms) h = (each_few d h.0, each_member_few ms h.1)
+  each_member_wide : (ms : Members) → EachMemberNumber Has64Bits ms → EachMemberNumber Has128Bits ms
+  each_member_wide no_members h = tt
+  each_member_wide (member k d ms) h = (each_wide d h.0, each_member_wide ms h.1)
 
 mutual
-  read_same : (d : Data) → EachNumber IsShort d → value_read d ≡ d
+  read_same : (d : Data) → EachNumber Has64Bits d → value_read d ≡ d
   read_same null h = refl
   read_same (boolean b) h = refl
   read_same (number n) h = rw h
@@ -165,11 +165,11 @@ mutual
   read_same (array ds) h = ap array (items_read_same ds h)
   read_same (object ms) h = ap object (members_read_same ms h)
 
-  items_read_same : (ds : Items) → EachItemNumber IsShort ds → items_read ds ≡ ds
+  items_read_same : (ds : Items) → EachItemNumber Has64Bits ds → items_read ds ≡ ds
   items_read_same no_items h = refl
   items_read_same (item d ds) h = ap₂ item (read_same d h.0) (items_read_same ds h.1)
 
-  members_read_same : (ms : Members) → EachMemberNumber IsShort ms → members_read ms ≡ ms
+  members_read_same : (ms : Members) → EachMemberNumber Has64Bits ms → members_read ms ≡ ms
   members_read_same no_members h = refl
   members_read_same (member k d ms) h = ap₂ (member k) (read_same d h.0) (members_read_same ms h.1)
 
@@ -179,4 +179,4 @@ pub wide_read_back : WideReadBackLaw
 wide_read_back reply few = read-compact_text (shown reply) (of_reply reply) few
 
 pub read_back : ReadBackLaw
-read_back reply short = wide_read_back reply (each_few (shown reply) short) ∙ ap Some (read_same (shown reply) short)
+read_back reply short = wide_read_back reply (each_wide (shown reply) short) ∙ ap Some (read_same (shown reply) short)

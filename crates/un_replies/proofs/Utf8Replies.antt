@@ -1,11 +1,10 @@
 -- Each reply's texts are UTF-8 where its names and its note are.
-use Rattle.std.proofs.Common.{◌≡◌, ℕ, suc, ℤ, List, [], ◌∷◌, ◌++◌, length, map, codes, Option, Some, None, Bool, true, false, IfSome, All, Ordering, Less, Equal, Greater, nat_cmp, IsUtf8, refl, arith}
+use Rattle.std.proofs.Common.{ℕ, suc, ℤ, List, [], ◌∷◌, ◌++◌, map, codes, Option, Some, None, Bool, true, false, IfSome, All, Ordering, Less, Equal, Greater, nat_cmp, IsUtf8, refl, arith}
 use Rattle.std.proofs.lemmas.Str.{IsUtf8-nil}
 use Rattle.std.specs.Cmp.Lexicographic.{slice_cmp}
 use Rattle.std.specs.Ordering.{match_ordering}
 use Rattle.std.specs.Prelude.{⊤}
 use Rattle.serde_json.specs.Data.{Data, string, Members, no_members, member, put}
-use Rattle.un_geom.specs.declared.point.Point.{Point}
 use Rattle.un_schema.specs.declared.place.Place.{Place}
 use Rattle.un_schema.specs.declared.place.Place.TheVariants as place
 use Rattle.un_schema.specs.Places.{place_text}

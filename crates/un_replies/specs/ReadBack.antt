@@ -1,5 +1,5 @@
 -- What a printed reply is read back as.
-use Rattle.std.specs.Prelude.{◌≡◌, ℕ, ◌^◌, ◌<◌, List, Bool, true, nat_lt, nat_le, nat_abs, if◌then◌else◌, Some, IfSome, All, IsTrue, IsUtf8, ⊤}
+use Rattle.std.specs.Prelude.{◌≡◌, ℕ, ◌^◌, ◌<◌, Bool, true, nat_lt, nat_le, nat_abs, if◌then◌else◌, Some, IfSome, All, IsTrue, IsUtf8, ⊤}
 use Rattle.serde_json.specs.Data.{Num, unsigned, negative, float, Data, null, boolean, number, string, array, object, Items, no_items, item, Members, no_members, member}
 use Rattle.serde_json.specs.Find.{to_float}
 use Rattle.serde_json.specs.Read.{read}
@@ -12,7 +12,7 @@ use Rattle.un_replies.specs.Replies.{shown, print}
 
 -- ---- numbers
 
--- a `u64` or an `i64` holds the number
+-- whether a `u64` or an `i64` holds the number
 abbrev pub has_64_bits : Num → Bool
 has_64_bits (unsigned n) = nat_lt n (2 ^ 64)
 has_64_bits (negative z) = nat_le (nat_abs z) (2 ^ 63)
@@ -27,12 +27,12 @@ magnitude (unsigned n) = n
 magnitude (negative z) = nat_abs z
 magnitude (float x) = 0
 
-abbrev pub IsShort : Num → Type 0
-IsShort n = IsTrue (has_64_bits n)
+abbrev pub Has64Bits : Num → Type 0
+Has64Bits n = IsTrue (has_64_bits n)
 
--- what the types of Rust hold: a `u64`, an `i128` and all that is smaller
-abbrev pub HasFewBits : Num → Type 0
-HasFewBits n = magnitude n < 2 ^ 128
+-- at most 128 bits beside the sign, as each number that a `u64` or an `i128` holds
+abbrev pub Has128Bits : Num → Type 0
+Has128Bits n = magnitude n < 2 ^ 128
 
 -- ---- values
 
@@ -99,11 +99,11 @@ HasUtf8Texts other = ⊤
 
 -- what is printed of a reply is JSON, and its value is the reply's
 abbrev pub ReadBackLaw : Type 0
-ReadBackLaw = (reply : Reply) → EachNumber IsShort (shown reply) → read (print reply) ≡ Some (shown reply)
+ReadBackLaw = (reply : Reply) → EachNumber Has64Bits (shown reply) → read (print reply) ≡ Some (shown reply)
 
 -- the same where numbers have more than 64 bits, as the sum of a function may have: they are read as the nearest floats
 abbrev pub WideReadBackLaw : Type 0
-WideReadBackLaw = (reply : Reply) → EachNumber HasFewBits (shown reply) → read (print reply) ≡ Some (value_read (shown reply))
+WideReadBackLaw = (reply : Reply) → EachNumber Has128Bits (shown reply) → read (print reply) ≡ Some (value_read (shown reply))
 
 -- what is printed of a reply is UTF-8, as a reader of bytes asks
 abbrev pub Utf8Law : Type 0
