@@ -1,6 +1,6 @@
 -- The starts of a trace, and what it reaches over the topology that is kept.
-use Rattle.std.proofs.Common.{◌≡◌, ℕ, zero, suc, ◌+◌, ◌<◌, ◌==◌, ◌&&◌, arith, nat_le, nat_lt, Bool, true, false, cond, List, [], ◌∷◌, ◌++◌, map, take, drop, length, get_or, Some, None, unwrap_or, ◌⊎◌, inl, inr, refl, sym, ap, ◌∙◌}
-use Rattle.std.specs.List.{list_any, range_with_len, cons_option}
+use Rattle.std.proofs.Common.{◌≡◌, ℕ, suc, ◌+◌, ◌<◌, arith, Bool, true, false, cond, List, [], ◌∷◌, ◌++◌, map, take, drop, length, get_or, Some, None, unwrap_or, ◌⊎◌, inl, inr, refl, sym, ap, ◌∙◌}
+use Rattle.std.specs.List.{cons_option}
 use Rattle.std.specs.Map.{lookup}
 use Rattle.std.proofs.lemmas.List.{take_more}
 use Rattle.std.proofs.lemmas.List.Elements.{filter_map-append}
@@ -21,11 +21,6 @@ use Rattle.un_trace.specs.Told.{IsAnswer, told, mode_of}
 use Rattle.un_core.specs.State.{State, kept_ground}
 use Rattle.un_core.specs.Answers.{start_node, start_nodes, start_due, starts_due, traced_kept}
 use Rattle.un_core.proofs.Grounds.{reached_here}
-
--- a number stands in a range
-pub stands_in_range : (a len n : ℕ) → list_any (λ k. k == n) (range_with_len a len) ≡ (nat_le a n && nat_lt n (a + len))
-stands_in_range a zero n = grind arith
-stands_in_range a (suc len) n = grind (arith, stands_in_range (a + 1) len n)
 
 -- the nodes of one start more
 pub one_start_more : (s : State) (starts : List Port) (i : ℕ) (d : Port) (n : Node) → i < length starts → start_node s (get_or starts i d) ≡ Some n

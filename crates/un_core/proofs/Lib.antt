@@ -22,3 +22,5 @@ pub mod Applying
 pub mod Led
 pub mod Clearing
 pub mod HistoryAnswers
+pub mod Attributes
+pub mod Named

@@ -1,17 +1,16 @@
 -- What a query is answered.
-use Rattle.std.specs.Prelude.{ℕ, ◌==◌, nat_lt, not, Bool, true, false, List, [], ◌∷◌, map, filter_map, length, flat_map, Option, None, Some, is_some, option_and_then, if◌then◌else◌}
-use Rattle.std.specs.List.{list_any}
+pub use Rattle.un_core.specs.Refusals.{refused}
+use Rattle.std.specs.Prelude.{ℕ, ◌==◌, nat_lt, not, Bool, true, false, List, [], ◌∷◌, map, filter_map, length, flat_map, Option, None, Some, is_some, option_and_then}
 use Rattle.std.specs.Option.{option_map_or}
 use Rattle.un_schema.specs.declared.place.Place.{Place}
 use Rattle.un_schema.specs.declared.place.Place.TheVariants as place
 use Rattle.un_defs.specs.declared.port.Port.{Port}
 use Rattle.un_defs.specs.declared.port.Node.{Node}
-use Rattle.un_defs.specs.declared.row.Row.{Row}
 use Rattle.un_defs.specs.declared.walk.Barriers.{Barriers}
 use Rattle.un_defs.specs.declared.refusal.Refusal.{Refusal}
 use Rattle.un_defs.specs.declared.refusal.Refusal.TheVariants as refusal
 use Rattle.un_defs.specs.Features.{row}
-use Rattle.un_defs.specs.Ports.{port_numbers_of, node_of}
+use Rattle.un_grid.specs.Numbers.{port_node}
 use Rattle.un_store.specs.Refusals.{first_due, due_if}
 use Rattle.un_points.specs.PointMaps.{covered}
 use Rattle.un_index.specs.Kept.{errors_of}
@@ -28,6 +27,7 @@ use Rattle.un_trace.specs.Told.{told, mode_of}
 use Rattle.un_core.specs.State.{State, kept_ground}
 use Rattle.un_core.specs.Validation.{met}
 use Rattle.un_core.specs.Walked.{reached}
+use Rattle.un_core.specs.Feature.{feature_told}
 
 -- ---- what is taken
 
@@ -58,7 +58,7 @@ untaken_member ask = first_due
 -- what is asked is not answered
 abbrev pub untaken : Asked → Option Refusal
 untaken Version = None
-untaken (Feature id) = Some (refusal.BadRequest place.Ask)
+untaken (Feature id) = None
 untaken (Dirty extent) = None
 untaken (Errors extent) = None
 untaken (Subnet tier subnet) = Some (refusal.BadRequest place.Ask)
@@ -73,14 +73,6 @@ abbrev pub query_due : State → Query → Option Refusal
 query_due s q = first_due (untaken q.what ∷ too_early s q.seen ∷ [])
 
 -- ---- the starts of a trace
-
--- the row has a port with the number
-abbrev pub has_port : Row → ℕ → Bool
-has_port r number = list_any (λ n. n == number) (port_numbers_of r)
-
--- the node of the row's port with the number, if it has one
-abbrev pub port_node : Row → ℕ → Option Node
-port_node r number = if has_port r number then node_of r number else None
 
 -- the node of a port of a live row, at the port's place in the row now
 abbrev pub start_node : State → Port → Option Node
@@ -102,8 +94,10 @@ start_nodes s starts = filter_map (start_node s) starts
 
 -- ---- replies
 
-abbrev pub refused : State → Refusal → Reply
-refused s r = reply.Refused r None s.version
+-- the feature with the id as it stands, or that none is live
+abbrev pub feature_reply : State → ℕ → Reply
+feature_reply s id =
+    option_map_or (λ r. reply.Feature (feature_told s.catalog r) s.version) (row s.features id) (refused s (refusal.NoSuchFeature id))
 
 -- where a walk stops: at the stops, and at dirty ground in consistent mode
 abbrev pub barriers_of : TraceAsk → Barriers
@@ -156,7 +150,7 @@ traced s ask = option_map_or (refused s) (starts_due s ask.starts)
 -- the answer of a query that is not refused before
 abbrev pub asked : State → Asked → Reply
 asked s Version = reply.Version s.version
-asked s (Feature id) = refused s (refusal.BadRequest place.Ask)
+asked s (Feature id) = feature_reply s id
 asked s (Dirty extent) = reply.Dirty (met extent s.areas) s.version
 asked s (Errors extent) = reply.Errors (flat_map errors_of (covered extent s.kept)) s.version
 asked s (Subnet tier subnet) = refused s (refusal.BadRequest place.Ask)

@@ -1,5 +1,6 @@
 -- What a command does to a state, and what is replied to it.
-use Rattle.std.specs.Prelude.{◌≡◌, ℕ, ◌+◌, ◌==◌, List, [], ◌∷◌, length, Option, Some, None, IfSome, if◌then◌else◌}
+pub use Rattle.un_core.specs.Refusals.{refused}
+use Rattle.std.specs.Prelude.{◌≡◌, ℕ, ◌+◌, ◌==◌, List, [], ◌∷◌, length, Option, Some, None, if◌then◌else◌}
 use Rattle.std.specs.Option.{option_map_or}
 use Rattle.un_schema.specs.declared.place.Place.TheVariants as place
 use Rattle.un_defs.specs.declared.edit.Edit.{Edit}
@@ -46,9 +47,6 @@ first_and_count first count = if count == 0 then 0 ∷ 0 ∷ [] else first ∷ c
 abbrev pub accepted : State → Event → Reply
 accepted s (edits e) = reply.Edited (first_and_count s.next_area (length (stain s.features e))) s.next_feature word.Insert (s.version + 1)
 accepted s (validates extent) = reply.Validated (length (met extent s.areas)) (errors_under s (met extent s.areas)) (s.version + 1)
-
-abbrev pub refused : State → Refusal → Reply
-refused s r = reply.Refused r None s.version
 
 -- a command that may not be asked for yet is no request
 abbrev pub reply_to : State → Option Event → Reply

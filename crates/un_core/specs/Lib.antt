@@ -7,6 +7,8 @@ pub mod Walked
 pub mod Listed
 pub mod Held
 pub mod Refusals
+pub mod Feature
+pub mod Named
 pub mod Commands
 pub mod Answers
 pub mod Traces

@@ -1,11 +1,13 @@
 -- What is looked at before a command is done, in order, and the refusal that is due.
-use Rattle.std.specs.Prelude.{ℕ, ◌+◌, nat_lt, nat_le, ◌||◌, List, [], ◌∷◌, length, Option}
+use Rattle.std.specs.Prelude.{ℕ, ◌+◌, nat_lt, nat_le, ◌||◌, List, [], ◌∷◌, length, Option, None}
 use Rattle.un_geom.specs.Rectangle.{Rectangle}
 use Rattle.un_defs.specs.declared.edit.Edit.{Edit}
 use Rattle.un_defs.specs.declared.refusal.Refusal.{Refusal}
 use Rattle.un_defs.specs.declared.refusal.Refusal.TheVariants as refusal
 use Rattle.un_defs.specs.declared.refusal.Limit.TheVariants as limit
 use Rattle.un_defs.specs.Stain.{stain}
+use Rattle.un_ask.specs.declared.reply.Reply.{Reply}
+use Rattle.un_ask.specs.declared.reply.Reply.TheVariants.{Refused}
 use Rattle.un_store.specs.Refusals.{first_due, due_if, refusal_of}
 use Rattle.un_core.specs.State.{State}
 
@@ -30,3 +32,7 @@ too_many areas rectangles = due_if (nat_lt most_areas (length areas + length rec
 -- the first refusal of an edit of a row
 abbrev pub edit_due : State → Edit → Option Refusal
 edit_due s e = first_due (numbers_due s ∷ refusal_of s.catalog s.features.rows e ∷ too_many s.areas (stain s.features e) ∷ [])
+
+-- the reply that tells of a refusal
+abbrev pub refused : State → Refusal → Reply
+refused s r = Refused r None s.version

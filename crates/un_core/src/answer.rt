@@ -41,10 +41,8 @@ fn untaken(what: &Asked) -> Option<Refusal>
     ensures { result ≡ untaken what.now }
 {
     match what {
-        Asked::Version | Asked::Dirty { .. } | Asked::Errors { .. } => None,
-        Asked::Feature { .. } | Asked::Subnet { .. } => Some(Refusal::BadRequest {
-            place: Place::Ask,
-        }),
+        Asked::Version | Asked::Feature { .. } | Asked::Dirty { .. } | Asked::Errors { .. } => None,
+        Asked::Subnet { .. } => Some(Refusal::BadRequest { place: Place::Ask }),
         Asked::Trace(ask) => untaken_member(ask),
     }
 }
@@ -128,7 +126,8 @@ impl Net {
         None
     }
 
-    fn refused(&self, refusal: Refusal) -> Reply
+    /// The reply that tells of a refusal.
+    pub(crate) fn refused(&self, refusal: Refusal) -> Reply
         ensures { result ≡ refused self.now refusal }
     {
         Reply::Refused {
@@ -194,6 +193,7 @@ impl Net {
         let version = self.version;
         match what {
             Asked::Version => Ok(Reply::Version { version }),
+            Asked::Feature { id } => self.feature(alloc, *id),
             Asked::Dirty { extent } => Ok(Reply::Dirty {
                 areas: Areas::new(self.dirty.meeting(alloc, *extent)?),
                 version,
@@ -203,17 +203,17 @@ impl Net {
                 version,
             }),
             Asked::Trace(ask) => self.traced(alloc, ask, steps),
-            Asked::Feature { .. } | Asked::Subnet { .. } => unreachable!(),
+            Asked::Subnet { .. } => unreachable!(),
         }
     }
 
     /// What a query is answered. It changes nothing.
     ///
-    /// In this order it is refused: `BadRequest` where it asks for a feature, for a subnetwork, for a trace that is not a connected
-    /// one, or by a member that is not taken; `Ahead` where it wants a later version; and a trace then by the first start that is
-    /// none, `NoSuchFeature` where its feature is not live and `NoStart` where that has no such port, and by `DirtyGround`, in
-    /// consistent mode where a dirty area covers a node that is reached. `steps` counts the stars that are looked up. It answers an
-    /// error only for want of memory.
+    /// In this order it is refused: `BadRequest` where it asks for a subnetwork, for a trace that is not a connected one, or by a
+    /// member that is not taken; `Ahead` where it wants a later version; and then the query for a feature by `NoSuchFeature`, where
+    /// none with the id is live, and a trace by the first start that is none, `NoSuchFeature` where its feature is not live and
+    /// `NoStart` where that has no such port, and by `DirtyGround`, in consistent mode where a dirty area covers a node that is
+    /// reached. `steps` counts the stars that are looked up. It answers an error only for want of memory.
     pub fn answer<L>(
         &self,
         alloc: Global,

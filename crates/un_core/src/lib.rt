@@ -3,6 +3,7 @@
 
 pub mod answer;
 pub mod apply;
+mod feature;
 pub mod histories;
 mod insert;
 mod kept;

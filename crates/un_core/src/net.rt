@@ -34,6 +34,7 @@ impl Model for Net {
     ghost use Rattle.un_core.specs.State.{State};
     ghost use Rattle.un_core.specs.Held.{held, features_in};
     ghost use Rattle.un_core.specs.Cover.{IsState};
+    ghost use Rattle.un_core.specs.Feature.{HaveAttributes};
     ghost use Rattle.un_grid.specs.Grids.{IsGridOf};
 
     ghost Value = { State };
@@ -41,7 +42,8 @@ impl Model for Net {
     ghost view = { λ n. held (arc_value n.schema) n.rows n.kept n.dirty n.version n.next_feature };
 
     ghost invariant = { λ n. IsState (held (arc_value n.schema) n.rows n.kept n.dirty n.version n.next_feature)
-        × IsGridOf n.grid (features_in (arc_value n.schema) n.rows) };
+        × IsGridOf n.grid (features_in (arc_value n.schema) n.rows)
+        × HaveAttributes (arc_value n.schema) n.rows };
 }
 
 impl Net {

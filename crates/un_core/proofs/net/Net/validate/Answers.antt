@@ -7,6 +7,7 @@ use Rattle.un_grid.specs.Grids.{ports_in}
 use Rattle.un_core.specs.State.{fresh_star}
 use Rattle.un_core.specs.Cover.{IsState}
 use Rattle.un_core.specs.Validation.{met, validated, errors_under, ArePoints, AreRebuilt}
+use Rattle.un_core.specs.Feature.{HaveAttributes}
 use Rattle.un_core.specs.Held.{held, features_in}
 use Rattle.un_core.proofs.CoverKept.{validated_state}
 use Rattle.un_core.proofs.Rebuilt.{rebuilt_kept}
@@ -33,6 +34,7 @@ invariant_of-result c =
       subst IsState (λ i. held (sym c.in_ok-clone.ensures.cases i) (sym c.in_ok-share.ensures i) kept (sym c.in_ok-clear_meeting.ensures i) (v + 1) n) state,
       λ p. ap (λ g. ports_in g p) c.in_ok-share-2.ensures.same ∙ c.self.invariant.1 p
           ∙ (λ i. ports (features_in (sym c.in_ok-clone.ensures.cases i) (sym c.in_ok-share.ensures i)) p),
+      subst (λ C. HaveAttributes C c.in_ok-share.field-0) (sym c.in_ok-clone.ensures.cases) (subst (HaveAttributes S) (sym c.in_ok-share.ensures) c.self.invariant.2),
     )
 
 pub returns-clause-state : goal.returns-clause-state

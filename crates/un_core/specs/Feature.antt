@@ -1,0 +1,58 @@
+-- A feature as a query tells it: as it stands, with names in place of the numbers of the schema.
+use Rattle.std.specs.Prelude.{ℕ, ◌<◌, ℤ, List, [], length, filter_map, slice_get, All, IfSome, Option, option_and_then}
+use Rattle.std.specs.declared.cmp.Ordering.{Ordering}
+use Rattle.std.specs.Ordering.{nat_cmp}
+use Rattle.std.specs.Cmp.Lexicographic.{slice_cmp}
+use Rattle.std.specs.Option.{option_map, option_map_or}
+use Rattle.un_schema.specs.Catalog.{Catalog, kind_at, path_names}
+use Rattle.un_defs.specs.declared.row.Row.{Row}
+use Rattle.un_defs.specs.Orders.{rising}
+use Rattle.un_ask.specs.declared.reply.FeatureReply.{FeatureReply}
+
+-- an attribute with its name
+abbrev pub with_name : Catalog → ℕ × ℤ → Option (List ℕ × ℤ)
+with_name S pair = option_map (λ name. (name, pair.1)) (slice_get S.attributes pair.0)
+
+-- named attributes compare by the bytes of their names
+abbrev pub by_name : List ℕ × ℤ → List ℕ × ℤ → Ordering
+by_name a b = slice_cmp nat_cmp a.0 b.0
+
+-- the attributes with their names, in byte order of these
+abbrev pub named : Catalog → List (ℕ × ℤ) → List (List ℕ × ℤ)
+named S attrs = rising by_name (filter_map (with_name S) attrs)
+
+-- the name of a kind
+abbrev pub kind_name : Catalog → ℕ → List ℕ
+kind_name S kind = option_map_or (λ k. k.name) (kind_at S kind) []
+
+-- the name of the current path of a row, if it has one
+abbrev pub path_name : Catalog → Row → Option (List ℕ)
+path_name S r = option_and_then (slice_get (path_names S r.kind)) r.path
+
+-- the row as it stands
+abbrev pub feature_told : Catalog → Row → FeatureReply
+feature_told S r = record {
+  attrs = named S r.attrs;
+  base = r.moment;
+  ends = r.ends;
+  flow = r.flow;
+  id = r.id;
+  kind = kind_name S r.kind;
+  note = r.note;
+  path = path_name S r;
+  points = r.shape;
+}
+
+-- each attribute of a list has a name
+abbrev pub HasAttributes : Catalog → List (ℕ × ℤ) → Type 0
+HasAttributes S attrs = All (λ pair. pair.0 < length S.attributes) attrs
+
+-- the same of each row
+abbrev pub HaveAttributes : Catalog → List Row → Type 0
+HaveAttributes S rows = All (λ r. HasAttributes S r.attrs) rows
+
+-- the schema has what a row names by number
+pub record HasNames (S : Catalog) (r : Row) : Type 0 where
+  pub kind : r.kind < length S.kinds
+  pub path : IfSome r.path (λ path. path < length (path_names S r.kind))
+  pub attributes : HasAttributes S r.attrs
