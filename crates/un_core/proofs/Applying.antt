@@ -1,5 +1,5 @@
 -- What a command that is accepted leaves, and what is replied to it.
-use Rattle.std.proofs.Common.{◌≡◌, ℕ, ◌+◌, ◌-◌, List, length, Option, Some, None, refl, sym, ap, ◌∙◌, arith}
+use Rattle.std.proofs.Common.{◌≡◌, ℕ, ◌+◌, ◌-◌, List, length, Some, None, refl, sym, ap, ◌∙◌, arith}
 use Rattle.std.specs.Option.{option_map_or}
 use Rattle.un_geom.specs.Rectangle.{Rectangle}
 use Rattle.un_defs.specs.declared.edit.Edit.{Edit}
@@ -11,7 +11,7 @@ use Rattle.un_ask.specs.declared.request.Command.TheVariants as command
 use Rattle.un_ask.specs.declared.reply.Reply.TheVariants as reply
 use Rattle.un_store.specs.Words.{IsInsert}
 use Rattle.un_core.specs.State.{State}
-use Rattle.un_core.specs.Step.{Event, edits, validates, edited}
+use Rattle.un_core.specs.Step.{edits, validates, edited}
 use Rattle.un_core.specs.Validation.{met, errors_under, validated}
 use Rattle.un_core.specs.Cover.{MayHappen}
 use Rattle.un_core.specs.Refusals.{edit_due, numbers_due}

@@ -1,15 +1,11 @@
 -- A list of points with their stars, in order and without empty stars, is determined by its look-ups.
-use Rattle.std.proofs.Common.{◌≡◌, ◌≢◌, ℕ, ◌+◌, Bool, true, false, not, ◌&&◌, cond, List, [], ◌∷◌, ◌++◌, map, filter, length, refl, sym, ap, ◌∙◌, subst, ◌⊎◌, inl, inr, true≢false}
-use Rattle.std.specs.List.{list_any, AllByRecursion}
+use Rattle.std.proofs.Common.{◌≡◌, ◌≢◌, sym, ap, ◌∙◌, subst, inl, inr}
 use Rattle.std.specs.List.Sorted.{IsStrictlySortedBy}
 use Rattle.un_geom.specs.declared.point.Point.{Point}
-use Rattle.un_geom.specs.Places.{same_point, point_cmp}
 use Rattle.un_defs.specs.declared.star.Star.{Star}
-use Rattle.un_defs.specs.declared.star.Spot.{Spot}
-use Rattle.un_defs.specs.declared.star.TopoError.{TopoError}
 use Rattle.un_defs.specs.Star.{empty_star}
-use Rattle.un_defs.proofs.Rising.{Among, sorted_unique, TiesAreOne}
-use Rattle.un_defs.proofs.Unique.{point_same, point_itself}
+use Rattle.un_defs.proofs.Rising.{Among, sorted_unique}
+use Rattle.un_defs.proofs.Unique.{point_same}
 use Rattle.un_index.specs.Kept.{stars_of}
 use Rattle.un_core.specs.Validation.{by_point}
 use Rattle.un_core.proofs.LookUps.{Pairs, IsMap, by_point_total, sorted_map, found_at, at_point, missing}

@@ -1,5 +1,5 @@
 -- What might happen to a state leaves a state.
-use Rattle.std.proofs.Common.{◌≡◌, ◌≢◌, ℕ, zero, suc, ◌+◌, ◌<◌, ◌||◌, Bool, true, false, not, List, [], ◌∷◌, ◌++◌, length, get_or, filter, refl, sym, ap, ◌∙◌, subst, All, IsFalse, inl, inr, arith}
+use Rattle.std.proofs.Common.{◌≡◌, ◌≢◌, ℕ, zero, suc, ◌<◌, Bool, true, false, not, List, [], ◌∷◌, ◌++◌, length, get_or, refl, sym, ◌∙◌, subst, All, IsFalse, inl, inr, arith}
 use Rattle.std.specs.List.{list_any, enumerate_from}
 use Rattle.std.proofs.lemmas.List.Folds.{list_any-append}
 use Rattle.std.proofs.lemmas.List.Elements.{All-filter}
@@ -8,7 +8,6 @@ use Rattle.un_geom.specs.declared.point.Point.{Point}
 use Rattle.un_geom.specs.Rectangle.{Rectangle}
 use Rattle.un_geom.specs.Places.{covers, meets}
 use Rattle.un_defs.specs.declared.edit.Edit.{Edit}
-use Rattle.un_defs.specs.declared.star.Star.{Star}
 use Rattle.un_defs.specs.Star.{star, empty_star}
 use Rattle.un_defs.specs.Change.{Next, changed, after}
 use Rattle.un_defs.specs.Features.{Features}
@@ -21,7 +20,7 @@ use Rattle.un_defs.proofs.KeepsSound.{keeps_sound}
 use Rattle.un_index.specs.Kept.{stars_of}
 use Rattle.un_core.specs.State.{State, fresh_star}
 use Rattle.un_core.specs.Validation.{met, unmet, is_under, rebuilt}
-use Rattle.un_core.specs.Step.{Event, edits, validates, setting, next_of, edited, with_rules}
+use Rattle.un_core.specs.Step.{edits, validates, setting, next_of, edited, with_rules}
 use Rattle.un_core.specs.Validation.{validated}
 use Rattle.un_core.specs.Cover.{IsState, MayHappen, CoverLaw}
 use Rattle.un_core.proofs.NextIds.{new_after}

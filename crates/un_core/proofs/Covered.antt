@@ -1,18 +1,13 @@
 -- What the features are and which points have their fresh star after an edit.
-use Rattle.std.proofs.Common.{◌≡◌, ◌≢◌, ℕ, ◌+◌, ◌<◌, ◌||◌, Bool, true, false, List, [], ◌∷◌, ◌++◌, map, length, refl, sym, ap, ◌∙◌, subst, All, AllPairs, IsFalse, arith}
-use Rattle.std.specs.List.{list_any, enumerate_from}
+use Rattle.std.proofs.Common.{◌≡◌, List, refl}
 use Rattle.std.proofs.lemmas.List.Elements.{All-weaker}
 use Rattle.un_geom.specs.declared.point.Point.{Point}
-use Rattle.un_geom.specs.Rectangle.{Rectangle}
-use Rattle.un_geom.specs.Places.{covers}
 use Rattle.un_schema.specs.declared.rule.Rule.{Rule}
 use Rattle.un_schema.specs.Catalog.{Catalog}
 use Rattle.un_defs.specs.declared.row.Row.{Row}
-use Rattle.un_defs.specs.declared.edit.Edit.{Edit}
 use Rattle.un_defs.specs.Features.{Features}
 use Rattle.un_defs.specs.Star.{star}
 use Rattle.un_defs.specs.Sound.{IsSound, FitsKind}
-use Rattle.un_defs.specs.Stain.{stain}
 use Rattle.un_core.specs.Step.{with_rules}
 
 -- the features fit the schema whichever rules are in force

@@ -1,34 +1,32 @@
 -- The reach over what is kept is the reach over all features, and over what the history tells.
-use Rattle.std.proofs.Common.{◌≡◌, ℕ, ◌&&◌, ◌||◌, Bool, true, false, List, [], ◌∷◌, ◌++◌, map, filter, flat_map, find, Option, Some, None, refl, sym, ap, ◌∙◌, subst, ◌⊎◌, inl, inr, true≢false, Contains, IsTrue, if◌then◌else◌}
+use Rattle.std.proofs.Common.{◌≡◌, ◌&&◌, Bool, true, false, List, [], ◌∷◌, ◌++◌, map, flat_map, find, Option, Some, None, refl, subst, ◌⊎◌, inl, inr, IsTrue, if◌then◌else◌}
 use Rattle.std.specs.List.{list_any}
 use Rattle.std.specs.Option.{option_map_or}
 use Rattle.un_geom.specs.declared.point.Point.{Point}
 use Rattle.un_geom.specs.Places.{same_point}
 use Rattle.un_schema.specs.Catalog.{Catalog}
 use Rattle.un_defs.specs.declared.port.Node.{Node}
-use Rattle.un_defs.specs.declared.star.Star.{Star}
 use Rattle.un_defs.specs.declared.star.Spot.{Spot}
 use Rattle.un_defs.specs.declared.walk.Mode.{Mode}
 use Rattle.un_defs.specs.declared.walk.Barriers.{Barriers}
 use Rattle.un_defs.specs.Features.{Features}
-use Rattle.un_defs.specs.Orders.{same_port, same_node, node_cmp}
+use Rattle.un_defs.specs.Orders.{same_port, same_node}
 use Rattle.un_defs.specs.Star.{star, empty_star, standing_points}
 use Rattle.un_defs.specs.Sound.{IsSound}
 use Rattle.un_defs.specs.Ground.{Ground, fresh_ground, entry, ties}
-use Rattle.un_defs.specs.Reach.{Walk, IsReach, leads, is_open, goes_by, mode_takes}
+use Rattle.un_defs.specs.Reach.{IsReach, leads, is_open, goes_by, mode_takes}
 use Rattle.un_defs.proofs.Rising.{Among, sorted_unique}
-use Rattle.un_defs.proofs.Members.{among_left, among_right, among-map, among-flat_map, among_from_list_any, list_any_from_among, contains_from_among, among_from_contains}
+use Rattle.un_defs.proofs.Members.{among_left, among_right, among-map, among-flat_map, among_from_list_any, contains_from_among, among_from_contains}
 use Rattle.un_defs.proofs.OrderLaws.{node_total}
 use Rattle.un_defs.proofs.LinkCases.{both_true}
 use Rattle.un_defs.proofs.Unique.{node_same, point_same}
 use Rattle.un_defs.proofs.Empty.{empty_elsewhere}
 use Rattle.un_defs.proofs.TwoGrounds.{two_grounds}
-use Rattle.un_index.specs.Kept.{stars_of}
 use Rattle.un_core.specs.State.{State, kept_ground, fresh_star}
-use Rattle.un_core.specs.Step.{Event, edits, validates}
-use Rattle.un_core.specs.History.{after_all, kept_after, dirty_after, history_ground, points_before, rebuilds}
+use Rattle.un_core.specs.Step.{Event}
+use Rattle.un_core.specs.History.{after_all, kept_after, history_ground, points_before, rebuilds}
 use Rattle.un_core.specs.Cover.{IsState, IsTold, MayAllHappen}
-use Rattle.un_core.specs.Walked.{reached, reached_in, linked_at}
+use Rattle.un_core.specs.Walked.{reached, linked_at}
 use Rattle.un_core.proofs.Opening.{all_states}
 use Rattle.un_core.proofs.Rebuilding.{bare_unless}
 use Rattle.un_core.proofs.Spreading.{reached_is_reach}

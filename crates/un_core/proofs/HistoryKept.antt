@@ -1,5 +1,5 @@
 -- What is kept, and what is dirty, is what the history tells.
-use Rattle.std.proofs.Common.{◌≡◌, ℕ, ◌||◌, ◌&&◌, Bool, true, false, not, cond, List, [], ◌∷◌, ◌++◌, filter, refl, sym, ap, ◌∙◌, if◌then◌else◌}
+use Rattle.std.proofs.Common.{◌≡◌, ◌||◌, ◌&&◌, Bool, true, false, not, cond, List, [], ◌∷◌, ◌++◌, filter, refl, sym, ap, ◌∙◌, if◌then◌else◌}
 use Rattle.std.specs.List.{list_any}
 use Rattle.std.proofs.lemmas.List.{append-nil}
 use Rattle.un_geom.specs.declared.point.Point.{Point}
@@ -8,11 +8,11 @@ use Rattle.un_geom.specs.Places.{covers, meets}
 use Rattle.un_schema.specs.Catalog.{Catalog}
 use Rattle.un_defs.proofs.ListLemmas.{filter-append}
 use Rattle.un_index.specs.Kept.{stars_of}
-use Rattle.un_core.specs.State.{State, opening, fresh_star}
+use Rattle.un_core.specs.State.{fresh_star}
 use Rattle.un_core.specs.Validation.{met, unmet, is_under, rebuilt}
 use Rattle.un_core.specs.Step.{Event, edits, validates}
 use Rattle.un_core.specs.History.{after_all, made_by, clears, alive_under, dirty_after, kept_after, rebuilds}
-use Rattle.un_core.specs.Cover.{IsState, MayAllHappen, IsTold, HistoryLaw}
+use Rattle.un_core.specs.Cover.{IsState, IsTold, HistoryLaw}
 use Rattle.un_core.proofs.LookUps.{sorted_map}
 use Rattle.un_core.proofs.Rebuilding.{rebuilt_under, rebuilt_elsewhere}
 use Rattle.un_core.proofs.Opening.{all_states}

@@ -1,13 +1,12 @@
 -- What an accepted insert gives, told by its parts.
-use Rattle.std.proofs.Common.{◌≡◌, ◌≢◌, ℕ, ◌+◌, ◌<◌, ◌==◌, ℤ, Bool, true, false, cond, List, [], ◌∷◌, ◌++◌, map, find, length, All, position, Option, Some, None, IsSome, option_to_list, refl, sym, ap, subst, ◌∙◌, inl, inr, arith, eqb-true, eq-eqb}
+use Rattle.std.proofs.Common.{◌≡◌, ℕ, ◌+◌, ◌<◌, ◌==◌, ℤ, Bool, true, false, cond, List, [], ◌∷◌, ◌++◌, length, All, position, Option, Some, None, IsSome, option_to_list, refl, sym, ap, subst, ◌∙◌, inl, inr, arith, eqb-true, eq-eqb}
 use Rattle.std.specs.Option.{option_map_or}
 use Rattle.std.proofs.lemmas.Option.{slice_get_cases}
 use Rattle.std.proofs.lemmas.List.Quantifiers.{position-Some}
 use Rattle.un_geom.specs.declared.point.Point.{Point}
-use Rattle.un_geom.specs.Places.{envelope, point_of}
+use Rattle.un_geom.specs.Places.{envelope}
 use Rattle.un_schema.specs.declared.kind.Kind.{Kind}
 use Rattle.un_schema.specs.Catalog.{Catalog, kind_at, kind_named, same_text}
-use Rattle.un_defs.specs.declared.port.Port.{Port}
 use Rattle.un_defs.specs.declared.row.Flow.{Flow}
 use Rattle.un_defs.specs.declared.row.Row.{Row}
 use Rattle.un_defs.specs.declared.star.Star.{Star}

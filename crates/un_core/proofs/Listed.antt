@@ -1,5 +1,5 @@
 -- The errors of what is kept are those of the ground, at any points that it has.
-use Rattle.std.proofs.Common.{◌≡◌, ◌≢◌, ◌&&◌, Bool, true, false, not, cond, List, [], ◌∷◌, ◌++◌, map, filter, flat_map, refl, sym, ap, ◌∙◌, subst, inl, inr, true≢false}
+use Rattle.std.proofs.Common.{◌≡◌, ◌≢◌, Bool, true, false, cond, List, [], ◌∷◌, ◌++◌, map, filter, flat_map, refl, sym, ap, ◌∙◌, inl, inr, true≢false}
 use Rattle.std.specs.List.{list_any}
 use Rattle.std.proofs.lemmas.List.Kept.{IsStrictlySortedBy-filter}
 use Rattle.un_geom.specs.declared.point.Point.{Point}
@@ -10,7 +10,7 @@ use Rattle.un_defs.specs.declared.star.TopoError.{TopoError}
 use Rattle.un_defs.specs.Star.{empty_star}
 use Rattle.un_defs.specs.Orders.{rising}
 use Rattle.un_defs.specs.Ground.{Ground}
-use Rattle.un_defs.proofs.Rising.{Among, sorted-rising, among-rising}
+use Rattle.un_defs.proofs.Rising.{sorted-rising, among-rising}
 use Rattle.un_defs.proofs.Members.{among_from-filter, list_any_from_among}
 use Rattle.un_defs.proofs.OrderLaws.{point_total, point_ties}
 use Rattle.un_defs.proofs.Unique.{from_all, point_itself}

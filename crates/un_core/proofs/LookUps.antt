@@ -1,5 +1,5 @@
 -- Looking up the star at a point in lists of points with their stars.
-use Rattle.std.proofs.Common.{◌≡◌, ◌||◌, Bool, true, false, not, cond, List, [], ◌∷◌, ◌++◌, map, filter, find, unwrap_or, refl, sym, ap, ◌∙◌, subst, Option, Some, None, inl, inr, ◌⊎◌, true≢false}
+use Rattle.std.proofs.Common.{◌≡◌, ◌||◌, Bool, true, false, cond, List, [], ◌∷◌, ◌++◌, map, filter, find, unwrap_or, refl, sym, ap, ◌∙◌, subst, Some, inl, inr, ◌⊎◌, true≢false}
 use Rattle.std.specs.declared.cmp.Ordering.TheVariants.{Less, Equal, Greater}
 use Rattle.std.specs.Ordering.{ordering_reverse}
 use Rattle.std.specs.Cmp.{IsTotalOrder}

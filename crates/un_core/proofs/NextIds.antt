@@ -1,5 +1,5 @@
 -- The ids that come next are new after an edit too.
-use Rattle.std.proofs.Common.{◌≡◌, ℕ, ◌+◌, ◌<◌, ◌==◌, not, List, [], ◌∷◌, ◌++◌, map, filter, refl, sym, subst, All, arith}
+use Rattle.std.proofs.Common.{◌≡◌, ℕ, ◌+◌, ◌<◌, ◌==◌, not, List, [], ◌∷◌, ◌++◌, refl, sym, subst, All, arith}
 use Rattle.std.proofs.lemmas.List.Elements.{All-filter, All-weaker, All-push, All-map}
 use Rattle.un_schema.specs.Catalog.{kind_at, kind_named, place_of}
 use Rattle.un_defs.specs.declared.row.Row.{Row}
@@ -7,7 +7,7 @@ use Rattle.un_defs.specs.declared.assoc.Assoc.{Assoc}
 use Rattle.un_defs.specs.declared.edit.Edit.{Edit}
 use Rattle.un_defs.specs.declared.edit.Edit.TheVariants as edit
 use Rattle.un_defs.specs.Features.{Features}
-use Rattle.un_defs.specs.Change.{Setting, Next, changed, after, change_row, new_row, moved, of_kind, on_path, numbered, add_association}
+use Rattle.un_defs.specs.Change.{Setting, Next, changed, after, change_row, new_row, moved, of_kind, on_path, numbered}
 use Rattle.un_defs.specs.Laws.{AreNew}
 use Rattle.un_defs.proofs.RowEdits.{touch, touch_keeps}
 use Rattle.un_defs.proofs.Locality.{by_option}

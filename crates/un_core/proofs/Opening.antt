@@ -1,8 +1,8 @@
 -- The opening state is a state, and so is each that a history leads to.
-use Rattle.std.proofs.Common.{◌≡◌, ℕ, List, [], ◌∷◌, refl, sym, arith}
+use Rattle.std.proofs.Common.{List, [], ◌∷◌, refl, arith}
 use Rattle.std.specs.List.Sorted.{IsStrictlySortedBy}
 use Rattle.un_schema.specs.Catalog.{Catalog}
-use Rattle.un_core.specs.State.{State, opening}
+use Rattle.un_core.specs.State.{opening}
 use Rattle.un_core.specs.Validation.{by_point}
 use Rattle.un_core.specs.Step.{Event}
 use Rattle.un_core.specs.History.{after_all}

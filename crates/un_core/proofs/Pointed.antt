@@ -1,6 +1,5 @@
 -- The points that a validation looks at, gathered area by area.
-use Rattle.std.proofs.Common.{◌≡◌, ◌≢◌, ℕ, Bool, true, false, cond, List, [], ◌∷◌, ◌++◌, map, filter, flat_map, fold, Option, Some, None, unwrap_or, refl, sym, ap, subst, ◌∙◌, ◌⊎◌, inl, inr, true≢false}
-use Rattle.std.specs.List.{list_any}
+use Rattle.std.proofs.Common.{◌≡◌, ℕ, Bool, true, false, cond, List, [], ◌∷◌, ◌++◌, map, flat_map, fold, Some, None, unwrap_or, refl, sym, ap, subst, ◌∙◌, ◌⊎◌, inl, inr}
 use Rattle.std.specs.List.Sorted.{IsStrictlySortedBy}
 use Rattle.std.specs.Map.{lookup}
 use Rattle.std.specs.BTreeSet.{insert_key}
@@ -9,7 +8,6 @@ use Rattle.un_geom.specs.Rectangle.{Rectangle}
 use Rattle.un_geom.specs.Places.{point_cmp, same_point, covers}
 use Rattle.un_points.specs.PointMaps.{value_at, covered}
 use Rattle.un_defs.specs.declared.port.Port.{Port}
-use Rattle.un_defs.specs.declared.port.Node.{Node}
 use Rattle.un_defs.specs.declared.star.Star.{Star}
 use Rattle.un_defs.specs.Features.{Features}
 use Rattle.un_defs.specs.Ports.{nodes, ports, standing_at}
@@ -21,10 +19,9 @@ use Rattle.un_defs.proofs.OrderLaws.{point_total, point_ties, port_ties}
 use Rattle.un_defs.proofs.Unique.{point_same}
 use Rattle.un_defs.proofs.Near.{false_unless}
 use Rattle.un_defs.proofs.Empty.{empty_elsewhere}
-use Rattle.un_index.specs.Kept.{stars_of}
-use Rattle.un_grid.specs.Grids.{ports_in, IsGridOf}
+use Rattle.un_grid.specs.Grids.{IsGridOf}
 use Rattle.un_core.specs.State.{State, fresh_star}
-use Rattle.un_core.specs.Validation.{is_under, ArePoints}
+use Rattle.un_core.specs.Validation.{ArePoints}
 use Rattle.un_core.specs.Cover.{IsState}
 
 -- ---- a set into which points are put

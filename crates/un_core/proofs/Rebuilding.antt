@@ -1,17 +1,14 @@
 -- What is kept at each point once areas are rebuilt.
-use Rattle.std.proofs.Common.{◌≡◌, ◌≢◌, ℕ, ◌||◌, Bool, true, false, not, List, [], ◌∷◌, ◌++◌, map, filter, find, refl, sym, ap, ◌∙◌, subst, Option, Some, None, inl, inr, true≢false, All}
-use Rattle.std.specs.declared.cmp.Ordering.TheVariants.{Equal}
+use Rattle.std.proofs.Common.{◌≡◌, ◌≢◌, ℕ, Bool, true, false, not, List, [], ◌++◌, map, find, refl, sym, ap, ◌∙◌, Some, None, inl, inr, true≢false}
 use Rattle.std.specs.List.{list_any}
 use Rattle.std.specs.List.Sorted.{IsStrictlySortedBy}
-use Rattle.std.proofs.lemmas.List.Elements.{All-weaker}
 use Rattle.un_geom.specs.declared.point.Point.{Point}
 use Rattle.un_geom.specs.Rectangle.{Rectangle}
 use Rattle.un_geom.specs.Places.{point_cmp, same_point}
 use Rattle.un_schema.specs.Catalog.{Catalog}
-use Rattle.un_defs.specs.declared.port.Node.{Node}
 use Rattle.un_defs.specs.declared.star.Star.{Star}
 use Rattle.un_defs.specs.Features.{Features}
-use Rattle.un_defs.specs.Orders.{rising, same_port}
+use Rattle.un_defs.specs.Orders.{same_port}
 use Rattle.un_defs.specs.Ports.{nodes}
 use Rattle.un_defs.specs.Star.{star, empty_star, standing_points, fresh}
 use Rattle.un_defs.specs.Sound.{IsSound}
@@ -19,14 +16,13 @@ use Rattle.un_defs.specs.Laws.{IsBare}
 use Rattle.un_defs.proofs.Rising.{Among, among-rising, among_from-rising, sorted-rising}
 use Rattle.un_defs.proofs.Members.{among-map, among_from-map, among_cases, among_from-filter, list_any_from_among, among_from_contains}
 use Rattle.un_defs.proofs.OrderLaws.{point_ties}
-use Rattle.un_defs.proofs.Unique.{point_same, point_itself}
 use Rattle.un_defs.proofs.Near.{false_unless}
 use Rattle.un_defs.proofs.Standing.{entry_of}
 use Rattle.un_defs.proofs.Empty.{empty_elsewhere}
 use Rattle.un_index.specs.Kept.{stars_of}
 use Rattle.un_core.specs.State.{State, fresh_star}
 use Rattle.un_core.specs.Validation.{is_under, by_point, rebuilt}
-use Rattle.un_core.proofs.LookUps.{Pairs, is_at, IsMap, IsMissing, kept_by, table, by_point_total, missing, sorted_map, stars_rising, stars_right, stars_left, missing_kept, stars_kept, stars_table, missing_table, table_map}
+use Rattle.un_core.proofs.LookUps.{Pairs, IsMap, kept_by, by_point_total, missing, stars_rising, stars_right, stars_left, missing_kept, stars_kept, stars_table, missing_table, table_map}
 
 -- ---- the fresh topology
 

@@ -1,7 +1,6 @@
 -- Replacing the stars of points one by one rebuilds the areas, and the errors of these stars are the errors there.
-use Rattle.std.proofs.Common.{◌≡◌, ◌≢◌, ℕ, ◌+◌, ◌&&◌, ◌||◌, Bool, true, false, not, cond, List, [], ◌∷◌, ◌++◌, map, filter, length, refl, sym, ap, ◌∙◌, subst, ◌⊎◌, inl, inr, true≢false, if◌then◌else◌, IsTrue, arith}
-use Rattle.std.specs.declared.cmp.Ordering.TheVariants.{Less}
-use Rattle.std.specs.List.{list_any, sum_by, AllByRecursion}
+use Rattle.std.proofs.Common.{◌≡◌, ◌≢◌, ℕ, ◌+◌, Bool, true, false, cond, List, [], ◌∷◌, filter, length, refl, sym, ap, ◌∙◌, subst, inl, inr, true≢false, if◌then◌else◌, arith}
+use Rattle.std.specs.List.{list_any, sum_by}
 use Rattle.std.specs.List.Sorted.{IsStrictlySortedBy}
 use Rattle.std.proofs.lemmas.List.Sums.{sum_by-cons}
 use Rattle.std.proofs.lemmas.List.Kept.{IsStrictlySortedBy-filter}
@@ -9,20 +8,18 @@ use Rattle.un_geom.specs.declared.point.Point.{Point}
 use Rattle.un_geom.specs.Rectangle.{Rectangle}
 use Rattle.un_geom.specs.Places.{same_point, point_cmp}
 use Rattle.un_defs.specs.declared.star.Star.{Star}
-use Rattle.un_defs.specs.declared.star.Spot.{Spot}
-use Rattle.un_defs.specs.declared.star.TopoError.{TopoError}
 use Rattle.un_defs.specs.Star.{empty_star}
 use Rattle.un_defs.proofs.Rising.{Among}
-use Rattle.un_defs.proofs.Members.{among_from_list_any, list_any_from_among, among_from-filter, among-filter, contains_from_among, among_from_contains}
+use Rattle.un_defs.proofs.Members.{among_from_list_any, list_any_from_among, among_from-filter, contains_from_among, among_from_contains}
 use Rattle.un_defs.proofs.Unique.{from_all, point_same, point_itself}
 use Rattle.un_defs.proofs.Near.{false_unless}
 use Rattle.un_index.specs.Kept.{stars_of}
 use Rattle.un_core.specs.State.{State, fresh_star}
 use Rattle.un_core.specs.Validation.{is_under, by_point, rebuilt, errors_under, count_errors, ArePoints, AreRebuilt, IsKept}
 use Rattle.un_core.specs.Cover.{IsState}
-use Rattle.un_core.proofs.LookUps.{Pairs, IsMap, is_at, at_point, found_at, table_map, table, kept_by, sorted_map, stars_kept, stars_table, missing_kept, missing_table, missing}
+use Rattle.un_core.proofs.LookUps.{Pairs, table_map, table, kept_by, sorted_map, stars_kept, stars_table, missing_kept, missing_table, missing}
 use Rattle.un_core.proofs.Rebuilding.{rebuilt_under, rebuilt_elsewhere, rebuilt_sorted, rebuilt_told}
-use Rattle.un_core.proofs.Canonical.{canonical, AreTold}
+use Rattle.un_core.proofs.Canonical.{canonical}
 use Rattle.un_core.proofs.Telling.{tells, tells_not, tells_something, stars_telling, table_sorted}
 
 -- ---- a point of a list

@@ -1,16 +1,15 @@
 -- Two grounds tell the same of nodes that have the same entries in both.
-use Rattle.std.proofs.Common.{◌≡◌, ℕ, ℤ, pos, not, ◌||◌, ◌==◌, Bool, false, List, [], ◌∷◌, map, filter, filter_map, flat_map, slice_get, cond, Option, None, Some, refl, inl, inr, ap, ◌∙◌, if◌then◌else◌}
+use Rattle.std.proofs.Common.{◌≡◌, ℕ, not, ◌||◌, ◌==◌, Bool, false, List, [], ◌∷◌, map, filter, filter_map, flat_map, slice_get, cond, Option, None, Some, refl, inl, inr, ap, ◌∙◌, if◌then◌else◌}
 use Rattle.std.specs.List.{cons_option, list_any}
 use Rattle.std.specs.Ordering.{nat_cmp}
 use Rattle.std.specs.Option.{option_map_or}
 use Rattle.un_attrs.specs.Attributes.{attribute}
 use Rattle.un_defs.specs.declared.port.Node.{Node}
-use Rattle.un_defs.specs.declared.star.Spot.{Spot}
 use Rattle.un_defs.specs.declared.walk.Barriers.{Barriers}
 use Rattle.un_defs.specs.Orders.{rising, same_port}
 use Rattle.un_defs.specs.Ground.{Ground, entry}
 use Rattle.un_defs.specs.Reach.{meets_condition}
-use Rattle.un_defs.specs.Result.{result_nodes, entries, nodes_of_feature, attrs_of_feature, feature_ids, values, int_sum, least_value, greatest_value, count_function, told_cmp}
+use Rattle.un_defs.specs.Result.{result_nodes, entries, nodes_of_feature, attrs_of_feature, feature_ids, values, int_sum, least_value, greatest_value, told_cmp}
 use Rattle.un_defs.proofs.Rising.{Among}
 use Rattle.un_defs.proofs.Members.{among_from-filter}
 use Rattle.un_ask.specs.declared.typed.Func.{Func}

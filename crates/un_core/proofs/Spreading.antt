@@ -1,16 +1,15 @@
 -- In as many steps as there are nodes all is reached that walks reach.
-use Rattle.std.proofs.Common.{◌≡◌, ℕ, zero, suc, ◌+◌, ◌<◌, ◌≤◌, ◌||◌, ◌&&◌, not, Bool, true, false, cond, List, [], ◌∷◌, ◌++◌, filter, length, refl, sym, ap, ◌∙◌, subst, ◌⊎◌, inl, inr, true≢false, arith}
-use Rattle.std.specs.List.{list_any, list_all}
+use Rattle.std.proofs.Common.{◌≡◌, ℕ, zero, suc, ◌<◌, ◌≤◌, ◌&&◌, not, Bool, true, false, cond, List, [], ◌∷◌, filter, length, refl, sym, ap, ◌∙◌, subst, ◌⊎◌, inl, inr, true≢false, arith}
+use Rattle.std.specs.List.{list_any}
 use Rattle.un_defs.specs.declared.port.Node.{Node}
-use Rattle.un_defs.specs.Orders.{rising, node_cmp, same_node}
+use Rattle.un_defs.specs.Orders.{node_cmp, same_node}
 use Rattle.un_defs.specs.Reach.{Walk, IsReach}
 use Rattle.un_defs.proofs.Rising.{Among, among-rising, among_from-rising, sorted-rising}
 use Rattle.un_defs.proofs.Members.{among_left, among_right, among_cases, among_from-filter, among-filter, among_from_list_any, list_any_from_among}
 use Rattle.un_defs.proofs.OrderLaws.{node_total, node_ties}
 use Rattle.un_defs.proofs.Unique.{node_same, node_itself}
 use Rattle.un_defs.proofs.Walking.{walk_from_start, walk_on, is_reach}
-use Rattle.un_defs.proofs.Near.{false_unless}
-use Rattle.un_core.specs.Walked.{one_further, reached_within, reached_in}
+use Rattle.un_core.specs.Walked.{reached_within, reached_in}
 
 -- ---- counting
 

@@ -1,29 +1,23 @@
 -- Traces over what is kept answer as over all features in consistent mode, and as the history tells in either.
-use Rattle.std.proofs.Common.{◌≡◌, ℕ, Bool, true, false, not, List, [], ◌∷◌, map, filter, find, flat_map, slice_get, Option, None, Some, refl, sym, ap, subst, ◌∙◌, true≢false, inl, inr, IsTrue, if◌then◌else◌, option_and_then}
+use Rattle.std.proofs.Common.{◌≡◌, Bool, true, false, List, [], ◌∷◌, map, filter, find, slice_get, Option, None, Some, refl, sym, ap, ◌∙◌, inl, IsTrue, if◌then◌else◌, option_and_then}
 use Rattle.std.specs.declared.cmp.Ordering.{Ordering}
 use Rattle.std.specs.List.{list_any}
 use Rattle.std.specs.BTreeSet.{insert_key}
 use Rattle.std.specs.Option.{option_map}
-use Rattle.un_geom.specs.Rectangle.{Rectangle}
 use Rattle.un_geom.specs.Places.{covers}
-use Rattle.un_schema.specs.Catalog.{Catalog}
-use Rattle.un_defs.specs.declared.port.Port.{Port}
 use Rattle.un_defs.specs.declared.port.Node.{Node}
 use Rattle.un_defs.specs.declared.walk.Dirt.{Dirt}
 use Rattle.un_defs.specs.Orders.{rising, least, port_cmp, same_port}
 use Rattle.un_defs.specs.Ground.{Ground, fresh_ground, entry, is_dirty}
 use Rattle.un_defs.specs.Reach.{IsReach, leads, dirt, area_cmp, areas_over, ports_under}
-use Rattle.un_defs.specs.Star.{standing_points}
 use Rattle.un_defs.proofs.Rising.{Among, among_from-rising, among-insert_key}
 use Rattle.un_defs.proofs.Members.{among-map, among-filter, among_from-filter, among_from_list_any, list_any_from_among}
 use Rattle.un_ask.specs.declared.typed.TypedAsk.{TypedAsk}
-use Rattle.un_ask.specs.declared.reply.Reply.{Reply}
-use Rattle.un_trace.specs.Told.{told, told_over, told_clean, mode_of}
+use Rattle.un_trace.specs.Told.{told, told_over, mode_of}
 use Rattle.un_core.specs.State.{State, kept_ground}
-use Rattle.un_core.specs.Step.{Event}
-use Rattle.un_core.specs.History.{after_all, history_ground}
-use Rattle.un_core.specs.Cover.{IsState, MayAllHappen}
-use Rattle.un_core.specs.Answers.{reached_kept, traced_kept}
+use Rattle.un_core.specs.History.{after_all}
+use Rattle.un_core.specs.Cover.{IsState}
+use Rattle.un_core.specs.Answers.{reached_kept}
 use Rattle.un_core.specs.Traces.{FreshTraceLaw, HistoryTraceLaw}
 use Rattle.un_core.proofs.Asked.{kept_points}
 use Rattle.un_core.proofs.Grounds.{reached_reaches, reached_fresh, reached_told, same_ground}

@@ -1,9 +1,8 @@
 -- What holds of every state, and what is to be shown of it.
-use Rattle.std.specs.Prelude.{◌≡◌, ◌≢◌, ℕ, ◌<◌, List, [], ◌∷◌, All, AllPairs, ⊤, IsFalse}
+use Rattle.std.specs.Prelude.{◌≡◌, ◌≢◌, ◌<◌, List, [], ◌∷◌, All, ⊤}
 use Rattle.std.specs.List.Sorted.{IsStrictlySortedBy}
 use Rattle.un_geom.specs.declared.point.Point.{Point}
 use Rattle.un_schema.specs.Catalog.{Catalog}
-use Rattle.un_defs.specs.declared.star.Star.{Star}
 use Rattle.un_defs.specs.Star.{empty_star}
 use Rattle.un_defs.specs.Sound.{IsSound}
 use Rattle.un_defs.specs.Ground.{AreNumbered}

@@ -1,5 +1,5 @@
 -- What an accepted command does to the state.
-use Rattle.std.specs.Prelude.{ℕ, ◌+◌, List, [], ◌++◌, length}
+use Rattle.std.specs.Prelude.{◌+◌, List, [], ◌++◌, length}
 use Rattle.std.specs.List.{enumerate_from}
 use Rattle.un_geom.specs.Rectangle.{Rectangle}
 use Rattle.un_schema.specs.declared.rule.Rule.{Rule}

@@ -1,5 +1,5 @@
 -- What validating an extent does to the kept topology and to the dirty areas.
-use Rattle.std.specs.Prelude.{◌≡◌, ◌≢◌, ◌⊎◌, ℕ, ◌+◌, All, Contains, IsTrue, if◌then◌else◌, Bool, not, List, ◌++◌, map, filter, length}
+use Rattle.std.specs.Prelude.{◌≡◌, ◌≢◌, ◌⊎◌, ℕ, ◌+◌, All, Contains, IsTrue, if◌then◌else◌, Bool, not, List, ◌++◌, filter, length}
 use Rattle.std.specs.declared.cmp.Ordering.{Ordering}
 use Rattle.std.specs.List.{list_any, sum_by}
 use Rattle.std.specs.List.Sorted.{IsStrictlySortedBy}

@@ -1,4 +1,4 @@
-use Rattle.std.proofs.Common.{◌≡◌, [], ◌∷◌, Some, option_to_list, sym, ap, ◌∙◌, subst, IsSome, true≢false}
+use Rattle.std.proofs.Common.{◌≡◌, [], ◌∷◌, option_to_list, sym, ap, ◌∙◌, subst, IsSome, true≢false}
 use Rattle.std.specs.Option.{option_copied}
 use Rattle.std.proofs.lemmas.Result.{err_from_is_err_and}
 use Rattle.un_defs.specs.Stain.{stain}
@@ -8,7 +8,7 @@ use Rattle.un_grid.proofs.Inserting.{inserted as grid_inserted}
 use Rattle.un_store.specs.Refusals.{refusal_of}
 use Rattle.un_core.specs.Held.{features_in}
 use Rattle.un_core.specs.Refusals.{too_many}
-use Rattle.un_core.proofs.Inserted.{Leaves, leaves, there, two_second}
+use Rattle.un_core.proofs.Inserted.{leaves, there, two_second}
 use Rattle.un_core.proofs.insert.with_feature.Goals as goal
 
 pub unreachable-requires : goal.unreachable-requires

@@ -1,4 +1,4 @@
-use Rattle.std.proofs.Common.{◌≡◌, pos, get_or, sym, ap, ◌∙◌}
+use Rattle.std.proofs.Common.{pos, get_or, sym, ap, ◌∙◌}
 use Rattle.std.specs.BTreeSet.{insert_key}
 use Rattle.std.proofs.lemmas.List.Sums.{fold_more}
 use Rattle.un_geom.specs.declared.point.Point.{Point}
