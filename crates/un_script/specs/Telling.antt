@@ -42,8 +42,9 @@ use Rattle.un_trace.specs.Told.{told, told_over, tells_controllers, controllers_
 use Rattle.un_core.specs.State.{State, kept_ground}
 use Rattle.un_core.specs.Refusals.{numbers_due, too_many, most_areas, last_number}
 use Rattle.un_core.specs.Step.{Event, edits, validates}
-use Rattle.un_core.specs.Commands.{event_of, event_due, reply_to, accepted, command_reply, refused as command_refused}
-use Rattle.un_core.specs.Answers.{answer, asked as asked_of, traced_kept, at_version, query_due, untaken, untaken_member, starts_due, start_due, start_node, start_nodes, connected_from, reached_kept, refused, is_connected, bad_if, too_early}
+use Rattle.un_core.specs.Commands.{event_of, event_due, reply_to, accepted, command_reply}
+use Rattle.un_core.specs.Answers.{answer, asked as asked_of, traced_kept, at_version, query_due, untaken, untaken_member, starts_due, start_due, start_node, start_nodes, connected_from, reached_kept, feature_reply, refused, is_connected, bad_if, too_early}
+use Rattle.un_core.specs.Feature.{feature_told}
 use Rattle.un_script.specs.Told.{IsTold}
 use Rattle.un_script.specs.Script.{reply_to as reply_to_asked}
 
@@ -207,7 +208,7 @@ command_told s c = go (event_of c)
 
     go : (o : Option Event) → IsTold (reply_to s o)
     go None = λ e. cc
-    go (Some e) = told_where (event_due s e) (command_refused s) (accepted s e) (event_other s e) (λ r other. other) (at e)
+    go (Some e) = told_where (event_due s e) (refused s) (accepted s e) (event_other s e) (λ r other. other) (at e)
 
 -- ---- queries
 
@@ -239,7 +240,7 @@ member_other ask = first_other
 untaken_other : (what : Asked) → IsOther (untaken what)
 unfolding IsOther
 untaken_other asked.Version = tt
-untaken_other (asked.Feature id) = λ e. cc
+untaken_other (asked.Feature id) = tt
 untaken_other (asked.Dirty extent) = tt
 untaken_other (asked.Errors extent) = tt
 untaken_other (asked.Subnet tier subnet) = λ e. cc
@@ -273,6 +274,13 @@ told_told v G ask reached = go (if ask.barriers.consistent then dirt G reached e
     go (Some d) = λ e. cc
     go None = clean (tells_controllers ask.kind)
 
+feature_is_told : (s : State) (id : ℕ) → IsTold (feature_reply s id)
+feature_is_told s id = go (row s.features id)
+  where
+    go : (o : Option Row) → IsTold (option_map_or (λ r. reply.Feature (feature_told s.catalog r) s.version) o (refused s (refusal.NoSuchFeature id)))
+    go None = λ e. cc
+    go (Some r) = tt
+
 answer_told : (s : State) (q : Query) → IsTold (answer s q)
 unfolding AreOther
 answer_told s q = told_where (query_due s q) (refused s) (asked_of s q.what)
@@ -282,7 +290,7 @@ answer_told s q = told_where (query_due s q) (refused s) (asked_of s q.what)
   where
     at : (what : Asked) → IsTold (asked_of s what)
     at asked.Version = tt
-    at (asked.Feature id) = λ e. cc
+    at (asked.Feature id) = feature_is_told s id
     at (asked.Dirty extent) = tt
     at (asked.Errors extent) = tt
     at (asked.Subnet tier subnet) = λ e. cc

@@ -398,3 +398,35 @@ fn terminals_that_are_not_chosen_are_errors(rt: HostRuntime) -> Result<(), Fail>
     assert!(rt; replies(rt.alloc(), WATER, lines, output)?);
     Ok(())
 }
+
+#[test]
+fn a_feature_is_told_as_it_stands(rt: HostRuntime) -> Result<(), Fail> {
+    let lines = b"{\"do\":\"insert\",\"kind\":\"joint\",\"points\":[[0,0,0]]}
+{\"ask\":\"feature\",\"id\":1}
+{\"ask\":\"feature\",\"id\":2}
+{\"ask\":\"feature\",\"id\":2,\"seen\":2}\n";
+    let output = b"{\"areas\":[1,1],\"id\":1,\"ok\":\"insert\",\"version\":1}
+{\"attrs\":{},\"base\":1,\"ends\":[0,0],\"flow\":\"both\",\"id\":1,\"kind\":\"joint\",\"note\":\"\",\"ok\":\"feature\",\"path\":\"\",\"points\":[[0,0,0]],\"version\":1}
+{\"error\":10,\"id\":2,\"name\":\"NoSuchFeature\",\"version\":1}
+{\"error\":31,\"latest\":1,\"name\":\"Ahead\",\"seen\":2}\n";
+    assert!(rt; replies(rt.alloc(), PIPES, lines, output)?);
+    Ok(())
+}
+
+// A schema with a valve, and with attributes that do not stand in byte order.
+const VALVES: &[u8] =
+    b"{\"schema\":1,\"attributes\":[\"shut\",\"Width\",\"length\"],\"categories\":[],\"configs\":[[\"valve2\",false,[\"in\",\"out\"],[[\"open\",[[1,2]]],[\"closed\",[]]]]],\"kinds\":[[\"valve\",\"device\",1,1,\"\",\"valve2\",[],false],[\"main\",\"line\",1,1,\"end\",\"\",[],false]],\"rules\":[[\"je\",\"valve\",0,\"main\"]],\"tiers\":[]}\n";
+
+#[test]
+fn a_feature_is_told_with_the_names_of_its_schema(rt: HostRuntime) -> Result<(), Fail> {
+    let lines = b"{\"do\":\"insert\",\"kind\":\"valve\",\"points\":[[0,0,0]],\"attrs\":{\"length\":3,\"shut\":1,\"Width\":-7},\"note\":\"north gate\"}
+{\"do\":\"insert\",\"kind\":\"main\",\"points\":[[0,0,0],[10,0,5]],\"attrs\":{\"length\":10},\"flow\":\"with\",\"ends\":[2,0]}
+{\"ask\":\"feature\",\"id\":1}
+{\"ask\":\"feature\",\"id\":2}\n";
+    let output = b"{\"areas\":[1,1],\"id\":1,\"ok\":\"insert\",\"version\":1}
+{\"areas\":[2,1],\"id\":2,\"ok\":\"insert\",\"version\":2}
+{\"attrs\":{\"Width\":-7,\"length\":3,\"shut\":1},\"base\":1,\"ends\":[0,0],\"flow\":\"both\",\"id\":1,\"kind\":\"valve\",\"note\":\"north gate\",\"ok\":\"feature\",\"path\":\"open\",\"points\":[[0,0,0]],\"version\":2}
+{\"attrs\":{\"length\":10},\"base\":2,\"ends\":[2,0],\"flow\":\"with\",\"id\":2,\"kind\":\"main\",\"note\":\"\",\"ok\":\"feature\",\"path\":\"\",\"points\":[[0,0,0],[10,0,5]],\"version\":2}\n";
+    assert!(rt; replies(rt.alloc(), VALVES, lines, output)?);
+    Ok(())
+}
