@@ -1,12 +1,11 @@
 -- What a validation does, and the errors of which it tells.
-use Rattle.std.proofs.Common.{◌≡◌, ◌≢◌, Bool, true, false, List, map, filter, refl, sym, ap, ◌∙◌}
+use Rattle.std.proofs.Common.{◌≡◌, ◌≢◌, Bool, true, false, map, filter, refl, sym, ap, ◌∙◌}
 use Rattle.std.proofs.lemmas.List.Kept.{IsStrictlySortedBy-filter}
 use Rattle.un_geom.specs.declared.point.Point.{Point}
 use Rattle.un_geom.specs.Rectangle.{Rectangle}
-use Rattle.un_defs.specs.declared.star.Star.{Star}
 use Rattle.un_defs.specs.Ports.{nodes}
 use Rattle.un_defs.specs.Star.{star, empty_star, standing_points, fresh}
-use Rattle.un_defs.proofs.Rising.{Among, sorted-rising}
+use Rattle.un_defs.proofs.Rising.{sorted-rising}
 use Rattle.un_defs.proofs.Members.{among_from-map, among_from-filter}
 use Rattle.un_defs.proofs.OrderLaws.{point_total}
 use Rattle.un_defs.proofs.Unique.{from_all}

@@ -5,7 +5,6 @@ use Rattle.un_schema.specs.Catalog.{Catalog}
 use Rattle.un_defs.specs.Star.{standing_points}
 use Rattle.un_defs.specs.Ground.{fresh_ground}
 use Rattle.un_ask.specs.declared.typed.TypedAsk.{TypedAsk}
-use Rattle.un_ask.specs.declared.request.Command.{Command}
 use Rattle.un_ask.specs.declared.query.Asked.{Asked}
 use Rattle.un_ask.specs.declared.query.Asked.TheVariants.{Version, Dirty, Errors, Trace}
 use Rattle.un_ask.specs.declared.reply.Reply.TheVariants as reply

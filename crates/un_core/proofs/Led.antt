@@ -1,5 +1,5 @@
 -- The commands that are accepted lead from state to state.
-use Rattle.std.proofs.Common.{◌≡◌, ℕ, suc, ◌+◌, List, [], ◌∷◌, ◌++◌, length, Option, None, Some, refl, sym, ap, subst, ◌∙◌, arith}
+use Rattle.std.proofs.Common.{◌≡◌, ℕ, ◌+◌, List, [], ◌∷◌, ◌++◌, Option, None, Some, refl, sym, ap, subst, ◌∙◌, arith}
 use Rattle.std.specs.Option.{option_map_or}
 use Rattle.un_schema.specs.declared.kind.Kind.{Kind}
 use Rattle.un_schema.specs.Catalog.{Catalog, kind_at, kind_named}
@@ -11,11 +11,10 @@ use Rattle.un_defs.specs.Change.{changed, add_row, new_row}
 use Rattle.un_ask.specs.declared.request.Command.{Command}
 use Rattle.un_ask.specs.declared.request.Command.TheVariants as command
 use Rattle.un_store.specs.Words.{IsInsert}
-use Rattle.un_store.specs.Refusals.{first_due, refusal_of}
+use Rattle.un_store.specs.Refusals.{refusal_of}
 use Rattle.un_store.proofs.Fitting.{insert_fits, none_due}
 use Rattle.un_core.specs.State.{State}
 use Rattle.un_core.specs.Step.{Event, edits, validates, setting, next_of, with_rules, step}
-use Rattle.un_core.specs.History.{after_all}
 use Rattle.un_core.specs.Cover.{IsState, MayHappen, MayAllHappen}
 use Rattle.un_core.specs.Refusals.{numbers_due, edit_due}
 use Rattle.un_core.specs.Commands.{event_of, event_of_edit, event_due, after_event}

@@ -1,7 +1,6 @@
 -- What is answered by the schema and the accepted commands alone.
 use Rattle.std.specs.Prelude.{◌≡◌, ◌+◌, List, length, Option, None, Some, if◌then◌else◌}
 use Rattle.std.specs.Option.{option_map_or}
-use Rattle.un_geom.specs.Rectangle.{Rectangle}
 use Rattle.un_schema.specs.Catalog.{Catalog}
 use Rattle.un_defs.specs.Star.{standing_points}
 use Rattle.un_defs.specs.Ground.{Ground, fresh_ground}

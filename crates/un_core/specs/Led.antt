@@ -1,5 +1,5 @@
 -- How the commands that are accepted lead from state to state.
-use Rattle.std.specs.Prelude.{◌≡◌, ℕ, List, [], ◌∷◌, ◌++◌, length, Option, None, Some}
+use Rattle.std.specs.Prelude.{◌≡◌, List, [], ◌∷◌, ◌++◌, length, Option, None, Some}
 use Rattle.std.specs.Option.{option_map_or}
 use Rattle.un_schema.specs.Catalog.{Catalog}
 use Rattle.un_schema.specs.Sound.{IsCatalog}

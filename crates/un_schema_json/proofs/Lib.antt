@@ -1,3 +1,4 @@
 pub mod Lengths
 pub mod Catalogs
 pub mod TierLists
+pub mod Sound

@@ -1,3 +1,4 @@
 pub mod Parts
 pub mod Table
 pub mod Lines
+pub mod Sound

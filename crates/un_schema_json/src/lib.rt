@@ -4,6 +4,7 @@
 mod built_in;
 mod config;
 mod kind;
+pub mod laws;
 pub mod line;
 mod list;
 mod members;

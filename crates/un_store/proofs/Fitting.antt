@@ -1,19 +1,18 @@
 -- An insert for which no refusal is due makes a row that fits its kind.
-use Rattle.std.proofs.Common.{◌≡◌, ℕ, zero, suc, ◌<◌, ◌≤◌, ℤ, All, List, [], ◌∷◌, length, Option, Some, None, IfSome, IsSome, IsSomeAnd, refl, sym, ap, ◌∙◌, arith}
+use Rattle.std.proofs.Common.{◌≡◌, ℕ, ◌≤◌, ℤ, List, ◌∷◌, length, Option, Some, None, IfSome, IsSome, IsSomeAnd, refl, sym, ap, ◌∙◌, arith}
 use Rattle.std.specs.Prelude.{slice_get, option_and_then}
 use Rattle.std.specs.Option.{option_map, option_map_or}
 use Rattle.un_geom.specs.Places.{bad_place}
 use Rattle.un_geom.proofs.BadPlaces.{good_count}
 use Rattle.un_schema.specs.declared.kind.Class.{Class}
 use Rattle.un_schema.specs.declared.kind.Kind.{Kind}
-use Rattle.un_schema.specs.Catalog.{Catalog, PathSet, kind_at, kind_named, config_of}
+use Rattle.un_schema.specs.Catalog.{Catalog, PathSet, kind_at, config_of}
 use Rattle.un_schema.specs.Sound.{IsPathSet, IsCatalog}
 use Rattle.un_defs.specs.declared.edit.Edit.TheVariants as edit
 use Rattle.un_defs.specs.declared.refusal.Refusal.{Refusal}
 use Rattle.un_defs.specs.declared.refusal.Refusal.TheVariants as refusal
 use Rattle.un_defs.specs.Sound.{least_points, most_points}
-use Rattle.un_defs.specs.Change.{first_path}
-use Rattle.un_store.specs.Refusals.{first_due, no_kind, of_kind, not_plain, bad_shape, bad_attribute, no_room}
+use Rattle.un_store.specs.Refusals.{first_due, no_kind, of_kind, not_plain, bad_shape}
 use Rattle.un_store.specs.Fitting.{InsertFitsLaw}
 use Rattle.un_store.proofs.Makings.{new_fits, all_at, some_at}
 

@@ -1,5 +1,5 @@
 -- What is to be shown of an insert for which no refusal is due.
-use Rattle.std.specs.Prelude.{◌≡◌, ℕ, List, Option, None}
+use Rattle.std.specs.Prelude.{◌≡◌, ℕ, List, None}
 use Rattle.un_schema.specs.Catalog.{Catalog}
 use Rattle.un_schema.specs.Sound.{IsCatalog}
 use Rattle.un_defs.specs.declared.row.Row.{Row}
