@@ -10,7 +10,7 @@ use Rattle.un_schema.specs.declared.place.Place.TheVariants as place
 use Rattle.un_schema_json.specs.Lines.{schema_of}
 use Rattle.un_replies.specs.Replies.{print}
 use Rattle.un_core.specs.State.{State}
-use Rattle.un_script.specs.Script.{script, bad_schema, bad_place, opened_by, refusal_line, refused_place, place_of, IsRefusedAs, IsUnrefused}
+use Rattle.un_script.specs.Script.{script, bad_schema, bad_place, opened_by, refusal_line, refused_place, place_of, IsRefusedAs, IsUnrefusedBy}
 
 -- behind a refused first line nothing is due
 silent : (ended : Bool) (lines texts : List (List ℕ)) → due_from script ended Closed lines texts ≡ []
@@ -50,6 +50,6 @@ refused_alone read left out refused = record {
 }
 
 -- where a state was opened or no first line has come, no first line is refused
-pub served_unrefused : (read : List ℕ) (state : Option State) (out : List ℕ) → IsServed script read false state out → IsUnrefused read out
+pub served_unrefused : (read : List ℕ) (state : Option State) (out : List ℕ) → IsServed script read false state out → IsUnrefusedBy script read out
 served_unrefused read None out served = record { is_due = served.is_due; first_is = λ e. let h : Missing ≡ Refuses = sym served.first ∙ e in cc }
 served_unrefused read (Some s) out served = record { is_due = served.is_due; first_is = λ e. let h : Opens ≡ Refuses = sym served.first ∙ e in cc }

@@ -1,4 +1,5 @@
 pub mod Script
+pub mod History
 pub mod Told
 pub mod OneLine
 pub mod Telling

@@ -83,14 +83,14 @@ abbrev pub IsScript : List (List ℕ) → Type 0
 IsScript words = words ≡ codes "script" ∷ []
 
 -- all that is due is written, and the first line came to this
-pub record IsServedBy (rules : Rules State) (read : List ℕ) (ended : Bool) (first : First) (out : List ℕ) : Type 0 where
+pub record IsServedBy {S : Type 0} (rules : Rules S) (read : List ℕ) (ended : Bool) (first : First) (out : List ℕ) : Type 0 where
   pub is_due : out ≡ due rules read ended out
   pub first_is : first_of rules (lines_of ended read) ≡ first
 
 -- all that is due for the whole lines is written, and no first line was refused
-pub record IsUnrefused (read out : List ℕ) : Type 0 where
-  pub is_due : out ≡ due script read false out
-  pub first_is : first_of script (lines_of false read) ≢ Refuses
+pub record IsUnrefusedBy {S : Type 0} (rules : Rules S) (read out : List ℕ) : Type 0 where
+  pub is_due : out ≡ due rules read false out
+  pub first_is : first_of rules (lines_of false read) ≢ Refuses
 
 -- the place of the refusal of the first line that isn't blank; the empty one where there is none
 abbrev pub place_of : Kind → List ℕ → Place → Place

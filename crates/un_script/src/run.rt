@@ -5,7 +5,8 @@ ghost use Rattle.un_io.specs.Outside.{Rose};
 ghost use Rattle.un_lines.specs.Due.{Opens, IsFront, first_of};
 ghost use Rattle.un_lines.specs.Cut.{lines_of};
 ghost use Rattle.un_lines.specs.Ending.{Ran};
-ghost use Rattle.un_script.specs.Script.{script, IsScript, IsServedBy, IsUnrefused, IsRefusedAs};
+ghost use Rattle.un_script.specs.Script.{script, IsScript, IsServedBy, IsUnrefusedBy, IsRefusedAs};
+ghost use Rattle.un_script.specs.History.{by_history, Headline};
 
 use crate::handler::Script;
 use std::alloc::Global;
@@ -25,7 +26,9 @@ fn is_script(words: &[Word]) -> bool
 /// Runs a script: reads its lines from the source, and writes the replies to the sink. Answers the status of the program.
 ///
 /// What is due is a function of the bytes read alone, but for the lines that met want of memory, which are read off the
-/// output. Where a source or a sink doesn't tell its bytes, the clauses on the status and its cause hold alone.
+/// output. It is told twice: by the state that the lines before left, and by the schema and the accepted commands alone. Where a source
+/// or a sink doesn't tell its bytes, the clauses on the status and its cause hold alone.
+#[tactic(auto, using(crate::proofs::History::headline))]
 pub fn run_script<S: Source, K: Sink>(
     alloc: Global,
     words: &[Word],
@@ -38,19 +41,28 @@ pub fn run_script<S: Source, K: Sink>(
     ensures no_command { (result ≡ 2) ↔ ¬ IsScript words.now }
     ensures nothing_done { result ≡ 2 → (source.new ≡ source.old) × (sink.new ≡ sink.old) }
 
+    // Over every list of lines and every cut of the input, the accepted commands alone tell the state and what is due.
+    ensures headline { Headline }
+
     // 0: the input was read to its end, and all that is due is written.
     ensures ended { result ≡ 0 → Ran (S.left source.old) (S.left source.new) (K.taken sink.old) (K.taken sink.new)
         (λ read out. (length read < 2 ^ 32) × IsServedBy script read true Opens out) }
+    ensures ended_by_history { result ≡ 0 → Ran (S.left source.old) (S.left source.new) (K.taken sink.old) (K.taken sink.new)
+        (λ read out. (length read < 2 ^ 32) × IsServedBy by_history read true Opens out) }
     ensures at_end { result ≡ 0 → IsAtEnd (S.left source.new) }
 
     // 3: the source failed. What is due for the whole lines is written, and no first line was refused.
     ensures source_fault { result ≡ 3 → Ran (S.left source.old) (S.left source.new) (K.taken sink.old) (K.taken sink.new)
-        (λ read out. (length read < 2 ^ 32) × IsUnrefused read out) }
+        (λ read out. (length read < 2 ^ 32) × IsUnrefusedBy script read out) }
+    ensures source_fault_by_history { result ≡ 3 → Ran (S.left source.old) (S.left source.new) (K.taken sink.old) (K.taken sink.new)
+        (λ read out. (length read < 2 ^ 32) × IsUnrefusedBy by_history read out) }
     ensures source_cause { result ≡ 3 → Rose (S.faults source.old) (S.faults source.new) }
 
     // 4: the sink failed. The front of what is due is written.
     ensures sink_fault { result ≡ 4 → Ran (S.left source.old) (S.left source.new) (K.taken sink.old) (K.taken sink.new)
         (λ read out. IsFront script read true out × (IsFront script read false out ⊎ IsAtEnd (S.left source.new))) }
+    ensures sink_fault_by_history { result ≡ 4 → Ran (S.left source.old) (S.left source.new) (K.taken sink.old) (K.taken sink.new)
+        (λ read out. IsFront by_history read true out × (IsFront by_history read false out ⊎ IsAtEnd (S.left source.new))) }
     ensures sink_cause { result ≡ 4 → Rose (K.faults sink.old) (K.faults sink.new) }
 
     // 6: the first line that isn't blank is no schema, or the input ended without one. The refusal
@@ -64,7 +76,9 @@ pub fn run_script<S: Source, K: Sink>(
 
     // 8: so many bytes were read. What is due for the whole lines is written, and no first line was refused.
     ensures limit { result ≡ 8 → Ran (S.left source.old) (S.left source.new) (K.taken sink.old) (K.taken sink.new)
-        (λ read out. (length read ≡ 2 ^ 32) × IsUnrefused read out) }
+        (λ read out. (length read ≡ 2 ^ 32) × IsUnrefusedBy script read out) }
+    ensures limit_by_history { result ≡ 8 → Ran (S.left source.old) (S.left source.new) (K.taken sink.old) (K.taken sink.new)
+        (λ read out. (length read ≡ 2 ^ 32) × IsUnrefusedBy by_history read out) }
 
     // With a schema, no fault and fewer bytes than the limit, it is 0, or it is 7 for want of memory.
     ensures complete { (bytes : List ℕ) → IsScript words.now → S.left source.old ≡ Some bytes → first_of script (lines_of true bytes) ≡ Opens → length bytes < 2 ^ 32

@@ -2,6 +2,7 @@ use Rattle.std.proofs.Common.{◌≡◌, ◌⊎◌, inl, inr, lit<, refl}
 use Rattle.un_lines.specs.declared.run.Ending.TheVariants.{Ended, Refused, Memory, Limit}
 use Rattle.un_lines.proofs.Public.{Ran-weaker}
 use Rattle.un_script.proofs.Refusals.{refused_alone, served_unrefused}
+use Rattle.un_script.proofs.History.{headline, ended_so, lines_so, fronts_so}
 use Rattle.un_script.proofs.run.run_script.Goals as goal
 
 pub returns-in-SinkFault-clause-statuses : goal.returns-in-SinkFault-clause-statuses
@@ -58,3 +59,39 @@ returns-in-SourceFault-clause-source_fault g c = λ _.
 pub returns-clause-limit : goal.returns-clause-limit
 returns-clause-limit g c = λ _.
     Ran-weaker _ _ _ _ _ _ (c.in-Limit.ensures.limit refl) (λ read out served. (served.0, served_unrefused read _ out served.1))
+
+-- ---- by the accepted commands alone
+
+pub returns-in-Ended-clause-ended_by_history : goal.returns-in-Ended-clause-ended_by_history
+returns-in-Ended-clause-ended_by_history g c = λ _.
+    Ran-weaker _ _ _ _ _ _ (c.in-Ended.ensures.ended refl) (λ read out served. (served.0, ended_so read _ out (c.in-Ended.ensures.opened refl) served.1))
+
+pub returns-in-SourceFault-clause-source_fault_by_history : goal.returns-in-SourceFault-clause-source_fault_by_history
+returns-in-SourceFault-clause-source_fault_by_history g c = λ _.
+    Ran-weaker _ _ _ _ _ _ (c.in-SourceFault.ensures.source_fault refl) (λ read out served. (served.0, lines_so read out (served_unrefused read _ out served.1)))
+
+pub returns-in-SinkFault-clause-sink_fault_by_history : goal.returns-in-SinkFault-clause-sink_fault_by_history
+returns-in-SinkFault-clause-sink_fault_by_history g c = λ _.
+    Ran-weaker _ _ _ _ _ _ (c.in-SinkFault.ensures.sink_fault refl) (λ read out fronts. fronts_so read out _ fronts)
+
+pub returns-clause-limit_by_history : goal.returns-clause-limit_by_history
+returns-clause-limit_by_history g c = λ _.
+    Ran-weaker _ _ _ _ _ _ (c.in-Limit.ensures.limit refl) (λ read out served. (served.0, lines_so read out (served_unrefused read _ out served.1)))
+
+pub returns-in-SinkFault-clause-headline : goal.returns-in-SinkFault-clause-headline
+returns-in-SinkFault-clause-headline g c = headline
+
+pub returns-in-SourceFault-clause-headline : goal.returns-in-SourceFault-clause-headline
+returns-in-SourceFault-clause-headline g c = headline
+
+pub returns-in-Refused-clause-headline : goal.returns-in-Refused-clause-headline
+returns-in-Refused-clause-headline g c = headline
+
+pub returns-in-Memory-clause-headline : goal.returns-in-Memory-clause-headline
+returns-in-Memory-clause-headline g c = headline
+
+pub returns-in-Ended-clause-headline : goal.returns-in-Ended-clause-headline
+returns-in-Ended-clause-headline g c = headline
+
+pub returns-clause-headline : goal.returns-clause-headline
+returns-clause-headline g c = headline
