@@ -2,65 +2,66 @@ use super::{first_other, outcome};
 use std::alloc::Global;
 use std::test::Fail;
 
+const BATCHES_AND_RULES: [(&str, &str); 24] = [
+    (
+        "{'do':'batch','edits':[{'do':'delete','id':1,'base':0},{'do':'detach','assoc':2}]}",
+        "good",
+    ),
+    ("{'do':'batch'}", "edits"),
+    ("{'do':'batch','edits':[]}", "edits"),
+    ("{'do':'batch','edits':{'do':'detach','assoc':2}}", "edits"),
+    (
+        "{'do':'batch','edits':[{'do':'detach','assoc':2},{'do':'detach','assoc':0}]}",
+        "edits",
+    ),
+    (
+        "{'do':'batch','edits':[{'do':'detach','assoc':2,'base':1}]}",
+        "edits",
+    ),
+    (
+        "{'do':'batch','edits':[{'do':'validate','extent':[0,0,0,0]}]}",
+        "edits",
+    ),
+    (
+        "{'do':'batch','edits':[{'do':'batch','edits':[{'do':'detach','assoc':2}]}]}",
+        "edits",
+    ),
+    (
+        "{'do':'batch','edits':[{'do':'detach','assoc':2,'ask':'version'}]}",
+        "edits",
+    ),
+    (
+        "{'do':'batch','edits':[{'do':'detach','assoc':2}],'base':0}",
+        "extra",
+    ),
+    ("{'do':'rule','rule':['je','joint',0,'pipe']}", "good"),
+    ("{'do':'rule','rule':['jj','joint',1,'valve',8]}", "good"),
+    ("{'do':'rule','rule':['c','vault','valve']}", "good"),
+    ("{'do':'rule','rule':['s','bank','pipe']}", "good"),
+    (
+        "{'do':'rule','rule':['eje','main',0,'tap','service',0]}",
+        "good",
+    ),
+    ("{'do':'rule'}", "rule"),
+    ("{'do':'rule','rule':['je','joint',9,'pipe']}", "rule"),
+    ("{'do':'rule','rule':['jj','joint',1,'valve']}", "rule"),
+    ("{'do':'rule','rule':['c','vault']}", "rule"),
+    ("{'do':'rule','rule':['x','bank','pipe']}", "rule"),
+    (
+        "{'do':'rule','rule':['eje','main',0,'tap','service',0,0]}",
+        "rule",
+    ),
+    (
+        "{'do':'rule','rule':['eje','main',0,'','service',0]}",
+        "rule",
+    ),
+    ("{'do':'rule','rule':{'c':'vault'}}", "rule"),
+    ("{'do':'rule','rule':['s','bank','pipe'],'id':1}", "extra"),
+];
+
 #[test]
 fn batches_and_rules(rt: HostRuntime) {
-    let rows = [
-        (
-            "{'do':'batch','edits':[{'do':'delete','id':1,'base':0},{'do':'detach','assoc':2}]}",
-            "good",
-        ),
-        ("{'do':'batch'}", "edits"),
-        ("{'do':'batch','edits':[]}", "edits"),
-        ("{'do':'batch','edits':{'do':'detach','assoc':2}}", "edits"),
-        (
-            "{'do':'batch','edits':[{'do':'detach','assoc':2},{'do':'detach','assoc':0}]}",
-            "edits",
-        ),
-        (
-            "{'do':'batch','edits':[{'do':'detach','assoc':2,'base':1}]}",
-            "edits",
-        ),
-        (
-            "{'do':'batch','edits':[{'do':'validate','extent':[0,0,0,0]}]}",
-            "edits",
-        ),
-        (
-            "{'do':'batch','edits':[{'do':'batch','edits':[{'do':'detach','assoc':2}]}]}",
-            "edits",
-        ),
-        (
-            "{'do':'batch','edits':[{'do':'detach','assoc':2,'ask':'version'}]}",
-            "edits",
-        ),
-        (
-            "{'do':'batch','edits':[{'do':'detach','assoc':2}],'base':0}",
-            "extra",
-        ),
-        ("{'do':'rule','rule':['je','joint',0,'pipe']}", "good"),
-        ("{'do':'rule','rule':['jj','joint',1,'valve',8]}", "good"),
-        ("{'do':'rule','rule':['c','vault','valve']}", "good"),
-        ("{'do':'rule','rule':['s','bank','pipe']}", "good"),
-        (
-            "{'do':'rule','rule':['eje','main',0,'tap','service',0]}",
-            "good",
-        ),
-        ("{'do':'rule'}", "rule"),
-        ("{'do':'rule','rule':['je','joint',9,'pipe']}", "rule"),
-        ("{'do':'rule','rule':['jj','joint',1,'valve']}", "rule"),
-        ("{'do':'rule','rule':['c','vault']}", "rule"),
-        ("{'do':'rule','rule':['x','bank','pipe']}", "rule"),
-        (
-            "{'do':'rule','rule':['eje','main',0,'tap','service',0,0]}",
-            "rule",
-        ),
-        (
-            "{'do':'rule','rule':['eje','main',0,'','service',0]}",
-            "rule",
-        ),
-        ("{'do':'rule','rule':{'c':'vault'}}", "rule"),
-        ("{'do':'rule','rule':['s','bank','pipe'],'id':1}", "extra"),
-    ];
-    assert_eq!(rt; first_other(rt.alloc(), &rows), None);
+    assert_eq!(rt; first_other(rt.alloc(), &BATCHES_AND_RULES), None);
 }
 
 #[test]

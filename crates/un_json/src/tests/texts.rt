@@ -31,50 +31,54 @@ fn words_and_places(rt: HostRuntime) {
     assert_eq!(rt; first_other(rt.alloc(), &rows), None);
 }
 
+const NUMBERS_AND_REPEATED_MEMBERS: [(&str, &str); 21] = [
+    ("{'ask':'version','seen':0}", "good"),
+    ("{'ask':'version','seen':-0}", "seen"),
+    ("{'ask':'version','seen':1.0}", "seen"),
+    ("{'ask':'version','seen':1e3}", "seen"),
+    ("{'ask':'version','seen':9223372036854775808}", "seen"),
+    ("{'ask':'version','seen':18446744073709551616}", "seen"),
+    ("{'ask':'version','seen':01}", "json"),
+    ("{'ask':'version','seen':+1}", "json"),
+    (
+        "{'do':'attrs','id':1,'base':0,'attrs':{'a':9223372036854775807,'b':-9223372036854775808}}",
+        "good",
+    ),
+    (
+        "{'do':'attrs','id':1,'base':0,'attrs':{'a':9223372036854775808}}",
+        "attrs",
+    ),
+    (
+        "{'do':'attrs','id':1,'base':0,'attrs':{'a':-9223372036854775809}}",
+        "attrs",
+    ),
+    ("{'do':'attrs','id':1,'base':0,'attrs':{'a':-0}}", "attrs"),
+    ("{'do':'attrs','id':1,'base':0,'attrs':{'a':1e3}}", "attrs"),
+    (
+        "{'do':'attrs','id':1,'base':0,'attrs':{'b':1,'a':2,'B':3}}",
+        "good",
+    ),
+    (
+        "{'do':'attrs','id':1,'base':0,'attrs':{'a':'1','a':2}}",
+        "good",
+    ),
+    (
+        "{'do':'attrs','id':1,'base':0,'attrs':{'a':2,'a':'1'}}",
+        "attrs",
+    ),
+    ("{'do':'delete','id':0,'base':0,'id':1}", "good"),
+    ("{'do':'delete','id':1,'base':0,'id':0}", "id"),
+    ("{'do':'nothing','id':1,'base':0,'do':'delete'}", "good"),
+    ("{'do':'delete','id':1,'base':0,'do':'nothing'}", "do"),
+    ("{'ask':'trace','ask':'version'}", "good"),
+];
+
 #[test]
 fn numbers_and_repeated_members(rt: HostRuntime) {
-    let rows = [
-        ("{'ask':'version','seen':0}", "good"),
-        ("{'ask':'version','seen':-0}", "seen"),
-        ("{'ask':'version','seen':1.0}", "seen"),
-        ("{'ask':'version','seen':1e3}", "seen"),
-        ("{'ask':'version','seen':9223372036854775808}", "seen"),
-        ("{'ask':'version','seen':18446744073709551616}", "seen"),
-        ("{'ask':'version','seen':01}", "json"),
-        ("{'ask':'version','seen':+1}", "json"),
-        (
-            "{'do':'attrs','id':1,'base':0,'attrs':{'a':9223372036854775807,'b':-9223372036854775808}}",
-            "good",
-        ),
-        (
-            "{'do':'attrs','id':1,'base':0,'attrs':{'a':9223372036854775808}}",
-            "attrs",
-        ),
-        (
-            "{'do':'attrs','id':1,'base':0,'attrs':{'a':-9223372036854775809}}",
-            "attrs",
-        ),
-        ("{'do':'attrs','id':1,'base':0,'attrs':{'a':-0}}", "attrs"),
-        ("{'do':'attrs','id':1,'base':0,'attrs':{'a':1e3}}", "attrs"),
-        (
-            "{'do':'attrs','id':1,'base':0,'attrs':{'b':1,'a':2,'B':3}}",
-            "good",
-        ),
-        (
-            "{'do':'attrs','id':1,'base':0,'attrs':{'a':'1','a':2}}",
-            "good",
-        ),
-        (
-            "{'do':'attrs','id':1,'base':0,'attrs':{'a':2,'a':'1'}}",
-            "attrs",
-        ),
-        ("{'do':'delete','id':0,'base':0,'id':1}", "good"),
-        ("{'do':'delete','id':1,'base':0,'id':0}", "id"),
-        ("{'do':'nothing','id':1,'base':0,'do':'delete'}", "good"),
-        ("{'do':'delete','id':1,'base':0,'do':'nothing'}", "do"),
-        ("{'ask':'trace','ask':'version'}", "good"),
-    ];
-    assert_eq!(rt; first_other(rt.alloc(), &rows), None);
+    assert_eq!(rt;
+        first_other(rt.alloc(), &NUMBERS_AND_REPEATED_MEMBERS),
+        None
+    );
 }
 
 #[test]

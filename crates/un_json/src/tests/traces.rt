@@ -2,100 +2,101 @@ use super::{first_other, outcome};
 use std::alloc::Global;
 use std::test::Fail;
 
+const MEMBERS_BY_TYPE: [(&str, &str); 26] = [
+    (
+        "{'ask':'trace','type':'connected','starts':[[1,1]]}",
+        "good",
+    ),
+    (
+        "{'ask':'trace','type':'subnetwork','tier':'zone','subnet':'north'}",
+        "good",
+    ),
+    (
+        "{'ask':'trace','type':'controllers','starts':[[1,1]],'tier':'zone'}",
+        "good",
+    ),
+    (
+        "{'ask':'trace','type':'upstream','starts':[[1,1]],'tier':'zone'}",
+        "good",
+    ),
+    (
+        "{'ask':'trace','type':'downstream','starts':[[1,1]],'tier':'zone'}",
+        "good",
+    ),
+    ("{'ask':'trace','type':'loops','starts':[[1,1]]}", "good"),
+    (
+        "{'ask':'trace','type':'isolation','starts':[[1,1]],'tier':'zone','isolators':['has','valve']}",
+        "good",
+    ),
+    ("{'ask':'trace','starts':[[1,1]]}", "type"),
+    ("{'ask':'trace','type':'shortest','starts':[[1,1]]}", "type"),
+    ("{'ask':'trace','type':'connected'}", "starts"),
+    (
+        "{'ask':'trace','type':'controllers','starts':[[1,1]]}",
+        "tier",
+    ),
+    ("{'ask':'trace','type':'upstream','starts':[[1,1]]}", "tier"),
+    (
+        "{'ask':'trace','type':'downstream','tier':'zone'}",
+        "starts",
+    ),
+    (
+        "{'ask':'trace','type':'subnetwork','subnet':'north'}",
+        "tier",
+    ),
+    (
+        "{'ask':'trace','type':'subnetwork','tier':'zone'}",
+        "subnet",
+    ),
+    (
+        "{'ask':'trace','type':'isolation','starts':[[1,1]],'isolators':['has','valve']}",
+        "tier",
+    ),
+    (
+        "{'ask':'trace','type':'isolation','starts':[[1,1]],'tier':'zone'}",
+        "isolators",
+    ),
+    (
+        "{'ask':'trace','type':'connected','starts':[[1,1]],'tier':'zone'}",
+        "extra",
+    ),
+    (
+        "{'ask':'trace','type':'loops','starts':[[1,1]],'tier':'zone'}",
+        "extra",
+    ),
+    (
+        "{'ask':'trace','type':'upstream','starts':[[1,1]],'tier':'zone','subnet':'north'}",
+        "extra",
+    ),
+    (
+        "{'ask':'trace','type':'subnetwork','tier':'zone','subnet':'north','starts':[[1,1]]}",
+        "extra",
+    ),
+    (
+        "{'ask':'trace','type':'connected','starts':[[1,1]],'isolators':['has','valve']}",
+        "extra",
+    ),
+    (
+        "{'ask':'trace','type':'loops','starts':[[1,1]],'consistent':true}",
+        "extra",
+    ),
+    (
+        "{'ask':'trace','type':'isolation','starts':[[1,1]],'tier':'zone','isolators':['has','valve'],'consistent':true}",
+        "extra",
+    ),
+    (
+        "{'ask':'trace','type':'controllers','starts':[[1,1]],'tier':'zone','include':[]}",
+        "extra",
+    ),
+    (
+        "{'ask':'trace','type':'loops','starts':[[1,1]],'functions':[]}",
+        "extra",
+    ),
+];
+
 #[test]
 fn members_of_traces_by_type(rt: HostRuntime) {
-    let rows = [
-        (
-            "{'ask':'trace','type':'connected','starts':[[1,1]]}",
-            "good",
-        ),
-        (
-            "{'ask':'trace','type':'subnetwork','tier':'zone','subnet':'north'}",
-            "good",
-        ),
-        (
-            "{'ask':'trace','type':'controllers','starts':[[1,1]],'tier':'zone'}",
-            "good",
-        ),
-        (
-            "{'ask':'trace','type':'upstream','starts':[[1,1]],'tier':'zone'}",
-            "good",
-        ),
-        (
-            "{'ask':'trace','type':'downstream','starts':[[1,1]],'tier':'zone'}",
-            "good",
-        ),
-        ("{'ask':'trace','type':'loops','starts':[[1,1]]}", "good"),
-        (
-            "{'ask':'trace','type':'isolation','starts':[[1,1]],'tier':'zone','isolators':['has','valve']}",
-            "good",
-        ),
-        ("{'ask':'trace','starts':[[1,1]]}", "type"),
-        ("{'ask':'trace','type':'shortest','starts':[[1,1]]}", "type"),
-        ("{'ask':'trace','type':'connected'}", "starts"),
-        (
-            "{'ask':'trace','type':'controllers','starts':[[1,1]]}",
-            "tier",
-        ),
-        ("{'ask':'trace','type':'upstream','starts':[[1,1]]}", "tier"),
-        (
-            "{'ask':'trace','type':'downstream','tier':'zone'}",
-            "starts",
-        ),
-        (
-            "{'ask':'trace','type':'subnetwork','subnet':'north'}",
-            "tier",
-        ),
-        (
-            "{'ask':'trace','type':'subnetwork','tier':'zone'}",
-            "subnet",
-        ),
-        (
-            "{'ask':'trace','type':'isolation','starts':[[1,1]],'isolators':['has','valve']}",
-            "tier",
-        ),
-        (
-            "{'ask':'trace','type':'isolation','starts':[[1,1]],'tier':'zone'}",
-            "isolators",
-        ),
-        (
-            "{'ask':'trace','type':'connected','starts':[[1,1]],'tier':'zone'}",
-            "extra",
-        ),
-        (
-            "{'ask':'trace','type':'loops','starts':[[1,1]],'tier':'zone'}",
-            "extra",
-        ),
-        (
-            "{'ask':'trace','type':'upstream','starts':[[1,1]],'tier':'zone','subnet':'north'}",
-            "extra",
-        ),
-        (
-            "{'ask':'trace','type':'subnetwork','tier':'zone','subnet':'north','starts':[[1,1]]}",
-            "extra",
-        ),
-        (
-            "{'ask':'trace','type':'connected','starts':[[1,1]],'isolators':['has','valve']}",
-            "extra",
-        ),
-        (
-            "{'ask':'trace','type':'loops','starts':[[1,1]],'consistent':true}",
-            "extra",
-        ),
-        (
-            "{'ask':'trace','type':'isolation','starts':[[1,1]],'tier':'zone','isolators':['has','valve'],'consistent':true}",
-            "extra",
-        ),
-        (
-            "{'ask':'trace','type':'controllers','starts':[[1,1]],'tier':'zone','include':[]}",
-            "extra",
-        ),
-        (
-            "{'ask':'trace','type':'loops','starts':[[1,1]],'functions':[]}",
-            "extra",
-        ),
-    ];
-    assert_eq!(rt; first_other(rt.alloc(), &rows), None);
+    assert_eq!(rt; first_other(rt.alloc(), &MEMBERS_BY_TYPE), None);
 }
 
 // A connected trace with some members more.
