@@ -51,18 +51,18 @@ module _ (S : Catalog) (history : List Event) (may : MayAllHappen S history) whe
   told_so (Dirty extent) = λ i. reply.Dirty (met extent (is_told.areas i)) (versions_count S history i)
   told_so (Errors extent) =
       λ i. reply.Errors (errors_listed (history_ground S history) (after_all S history).kept (record { sorted = is.sorted; told = is.told }) (λ p. sym (is_told.kept p)) (points_before S history) (history_points S history may) extent i)
-          (versions_count S history i)
+      (versions_count S history i)
   told_so (Trace ask) =
       λ i. option_map_or (refused (after_all S history)) (starts_due (after_all S history) ask.starts)
-          (at_version (versions_count S history i) (by_mode (connected_from ask (start_nodes (after_all S history) ask.starts)) i))
+      (at_version (versions_count S history i) (by_mode (connected_from ask (start_nodes (after_all S history) ask.starts)) i))
   told_so _ = refl
 
   accepted_so : (e : Event) → accepted (after_all S history) e ≡ accepted_after S history e
   accepted_so (edits e) = refl
   accepted_so (validates extent) =
       λ i. reply.Validated (length (met extent (is_told.areas i)))
-          (((validation_does (after_all S history) extent is).tells ∙ ap (λ areas. fresh_errors (after_all S history) (met extent areas)) is_told.areas) i)
-          (versions_count S history i + 1)
+      (((validation_does (after_all S history) extent is).tells ∙ ap (λ areas. fresh_errors (after_all S history) (met extent areas)) is_told.areas) i)
+      (versions_count S history i + 1)
 
   replied_so : (o : Option Event) → reply_to (after_all S history) o ≡ event_reply_after S history o
   replied_so None = refl

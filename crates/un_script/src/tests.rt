@@ -419,7 +419,8 @@ const VALVES: &[u8] =
 
 #[test]
 fn a_feature_is_told_with_the_names_of_its_schema(rt: HostRuntime) -> Result<(), Fail> {
-    let lines = b"{\"do\":\"insert\",\"kind\":\"valve\",\"points\":[[0,0,0]],\"attrs\":{\"length\":3,\"shut\":1,\"Width\":-7},\"note\":\"north gate\"}
+    let lines =
+        b"{\"do\":\"insert\",\"kind\":\"valve\",\"points\":[[0,0,0]],\"attrs\":{\"length\":3,\"shut\":1,\"Width\":-7},\"note\":\"north gate\"}
 {\"do\":\"insert\",\"kind\":\"main\",\"points\":[[0,0,0],[10,0,5]],\"attrs\":{\"length\":10},\"flow\":\"with\",\"ends\":[2,0]}
 {\"ask\":\"feature\",\"id\":1}
 {\"ask\":\"feature\",\"id\":2}\n";
