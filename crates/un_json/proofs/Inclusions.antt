@@ -1,8 +1,8 @@
 -- Inclusions, added one after the other, and lists that are no function.
-use Rattle.std.proofs.Common.{◌≡◌, ◌≢◌, List, [], ◌∷◌, length, Option, None, Some, refl, sym}
+use Rattle.std.proofs.Common.{◌≡◌, ◌≢◌, List, [], ◌∷◌, length, None, Some, refl, sym}
 use Rattle.serde_json.specs.declared.value.Value.{Value}
 use Rattle.serde_json.specs.Data.{Data}
-use Rattle.serde_json.specs.View.{view, items_view}
+use Rattle.serde_json.specs.View.{items_view}
 use Rattle.serde_json.specs.Find.{as_array}
 use Rattle.un_ask.specs.declared.trace.Include.{Include}
 use Rattle.un_json.specs.declared.words.Inclusion.{Inclusion}

@@ -1,7 +1,7 @@
 -- Lists of values, as the code reads them one after the other.
 use Rattle.std.proofs.Common.{◌≡◌, ◌≢◌, ◌==◌, ℕ, suc, ℤ, List, [], ◌∷◌, ◌++◌, length, Option, None, Some, option_map, option_and_then, refl, ap, sym, ◌∙◌, arith, append_assoc, append-nil}
 use Rattle.serde_json.specs.declared.value.Value.{Value}
-use Rattle.serde_json.specs.Data.{Data, Items}
+use Rattle.serde_json.specs.Data.{Data}
 use Rattle.serde_json.specs.View.{view, items_view}
 use Rattle.serde_json.specs.Find.{as_array}
 use Rattle.un_json.specs.Forms.{each_item, kept, whole, numbers_of, pair_of, count_from_to, id_of, port, ends_of, port_of}

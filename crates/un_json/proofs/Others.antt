@@ -1,5 +1,5 @@
 -- Members of an object, looked at one after the other.
-use Rattle.std.proofs.Common.{◌≡◌, true, false, List, [], ◌∷◌, String, string_bytes, sym}
+use Rattle.std.proofs.Common.{◌≡◌, true, false, List, [], ◌∷◌, String, string_bytes}
 use Rattle.std.specs.declared.alloc.Global.{Global}
 use Rattle.serde_json.specs.declared.value.Value.{Value}
 use Rattle.serde_json.specs.View.{members_view}

@@ -1,6 +1,6 @@
 -- The forms that the values of members may have: what a JSON value is, if it has the form.
-use Rattle.std.specs.Prelude.{ℕ, ℤ, int_le, nat_le, Bool, true, false, not, ◌&&◌, ◌==◌, List, [], ◌∷◌, length, map, Option, None, Some, option_and_then, option_map, is_some, if◌then◌else◌, codes}
-use Rattle.std.specs.List.{list_all, list_any}
+use Rattle.std.specs.Prelude.{ℕ, ℤ, int_le, nat_le, Bool, true, false, ◌&&◌, ◌==◌, List, [], ◌∷◌, length, Option, None, Some, option_and_then, option_map, is_some, if◌then◌else◌, codes}
+use Rattle.std.specs.List.{list_all}
 use Rattle.std.specs.Str.{bytes_eq}
 use Rattle.serde_json.specs.Data.{Data, null, boolean, number, string, array, object, Items, no_items, item, Members, no_members, member}
 use Rattle.serde_json.specs.Find.{as_str, as_null, as_number, as_u64, as_i64, as_array, as_object}

@@ -1,6 +1,6 @@
 -- The members of each request, by its word, in the order in which they are looked at: `need` for a member that must be there, with its
 -- name and its form, and `may` for one that may be absent, with the value that it has then.
-use Rattle.std.specs.Prelude.{ℕ, Bool, [], ◌∷◌, List, true, false, Option, None, Some, option_map, option_and_then, Result, Ok, Err}
+use Rattle.std.specs.Prelude.{ℕ, Bool, [], ◌∷◌, List, true, false, Option, None, Some, option_map, option_and_then, Result}
 use Rattle.std.specs.Result.{result_ok}
 use Rattle.serde_json.specs.Data.{Data}
 use Rattle.serde_json.specs.Find.{get, as_str, as_bool}
@@ -23,14 +23,13 @@ use Rattle.un_ask.specs.declared.trace.TraceKind.{TraceKind}
 use Rattle.un_ask.specs.declared.trace.TraceKind.TheVariants as trace
 use Rattle.un_ask.specs.declared.trace.Include.{Include}
 use Rattle.un_ask.specs.declared.trace.NamedFunc.{NamedFunc}
-use Rattle.un_ask.specs.declared.trace.TraceAsk.{TraceAsk}
 use Rattle.un_ask.specs.Batches.{is_batch}
 use Rattle.un_ask.specs.Words.{edit_named}
 use Rattle.un_json.specs.declared.words.CommandWord.{CommandWord}
 use Rattle.un_json.specs.declared.words.CommandWord.TheVariants as does
 use Rattle.un_json.specs.declared.words.QueryWord.{QueryWord}
 use Rattle.un_json.specs.declared.words.QueryWord.TheVariants as asks
-use Rattle.un_json.specs.Rows.{Row, Column, makes, ◌&◌, need, may, need_when, may_when, needed, answers, mapped, and_then}
+use Rattle.un_json.specs.Rows.{Row, makes, ◌&◌, need, may, need_when, may_when, needed, answers, mapped, and_then}
 use Rattle.un_json.specs.Forms.{kept, id_of, base_of, name_of, points_of, attrs_of, flow_of, ends_of, note_of, port_of, terminal_of, list_of, extent_of, rule_of, starts_of, stops_of, kind_of, some_condition_of, barriers_of, include_of, functions_of, nothing}
 
 -- ---- edits

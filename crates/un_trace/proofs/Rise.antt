@@ -1,5 +1,5 @@
 -- Nodes that rise by port: those of a feature stand together, and their numbers do not fall.
-use Rattle.std.proofs.Common.{◌≡◌, ◌≢◌, ℕ, zero, suc, ◌<◌, ◌≤◌, ◌+◌, ◌==◌, Bool, true, false, cond, List, [], ◌∷◌, ◌++◌, map, length, take, drop, get_or, take_while, inl, inr, refl, sym, ap, subst, ◌∙◌, arith, eq-eqb, eqb-true, is_lt, IsSorted}
+use Rattle.std.proofs.Common.{◌≡◌, ◌≢◌, ℕ, zero, suc, ◌<◌, ◌≤◌, ◌+◌, ◌==◌, true, false, cond, List, [], ◌∷◌, map, length, take, drop, get_or, take_while, inl, inr, refl, sym, ap, subst, ◌∙◌, arith, eq-eqb, eqb-true, is_lt, IsSorted}
 use Rattle.std.specs.Prelude.{⊤}
 use Rattle.std.specs.declared.cmp.Ordering.{Ordering}
 use Rattle.std.specs.declared.cmp.Ordering.TheVariants.{Less, Equal, Greater}
@@ -10,12 +10,11 @@ use Rattle.std.proofs.lemmas.Cmp.{ranked}
 use Rattle.std.proofs.lemmas.List.Sums.{take_while-cons}
 use Rattle.un_geom.specs.Places.{point_cmp}
 use Rattle.un_defs.specs.declared.port.Node.{Node}
-use Rattle.un_defs.specs.Orders.{node_cmp, port_cmp}
+use Rattle.un_defs.specs.Orders.{node_cmp}
 use Rattle.un_defs.proofs.Rising.{Among}
-use Rattle.un_defs.proofs.Members.{among-map, among_from-map}
+use Rattle.un_defs.proofs.Members.{among-map}
 use Rattle.un_trace.specs.declared.nodes.Seen.{Seen}
 use Rattle.un_trace.specs.Seen.{nodes_of}
-use Rattle.un_trace.proofs.Runs.{IsRunAfter}
 
 abbrev pub feature_of : Seen → ℕ
 feature_of s = s.node.port.feature

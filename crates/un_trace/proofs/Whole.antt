@@ -1,9 +1,8 @@
 -- The whole answer, put together from its parts.
-use Rattle.std.proofs.Common.{◌≡◌, ℕ, ℤ, ◌+◌, ◌*◌, ◌≤◌, Bool, List, map, filter_map, flat_map, length, refl, sym, ap, subst, ◌∙◌, Option, Some, None, Result, Ok, Err, IfOk, OnOk, if◌then◌else◌, arith}
+use Rattle.std.proofs.Common.{◌≡◌, ℕ, ℤ, List, map, filter_map, flat_map, length, ap, ◌∙◌, Option, None, Result, Ok, Err, IfOk, OnOk, if◌then◌else◌}
 use Rattle.std.specs.Ordering.{nat_cmp}
 use Rattle.un_defs.specs.declared.port.Node.{Node}
 use Rattle.un_defs.specs.declared.star.Spot.{Spot}
-use Rattle.un_defs.specs.declared.walk.Dirt.{Dirt}
 use Rattle.un_defs.specs.Orders.{rising}
 use Rattle.un_defs.specs.Ground.{Ground, entry}
 use Rattle.un_defs.specs.Reach.{IsReach, leads, dirt}

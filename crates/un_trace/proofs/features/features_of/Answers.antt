@@ -1,10 +1,10 @@
-use Rattle.std.proofs.Common.{◌≡◌, ◌+◌, List, [], ◌∷◌, ◌++◌, map, take, take_all, sym, ap, subst, ◌∙◌, arith, IsSorted}
+use Rattle.std.proofs.Common.{◌+◌, List, [], ◌∷◌, ◌++◌, map, take, take_all, sym, ap, subst, ◌∙◌, arith, IsSorted}
 use Rattle.std.specs.Ordering.{nat_cmp}
 use Rattle.std.specs.List.{cons_option}
 use Rattle.un_trace.specs.declared.nodes.Seen.{Seen}
 use Rattle.un_trace.proofs.Rise.{feature_of, number_of, rise_from}
 use Rattle.un_trace.proofs.Told.{told_parts, told_firsts, parts_are, firsts_are, parts_more, firsts_more, read_part, read_first}
-use Rattle.un_trace.proofs.Turn.{Turn, turn, counted}
+use Rattle.un_trace.proofs.Turn.{turn, counted}
 use Rattle.un_trace.proofs.features.features_of.Goals as goal
 
 pub add-requires : goal.add-requires

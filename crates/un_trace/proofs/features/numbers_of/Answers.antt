@@ -1,8 +1,6 @@
-use Rattle.std.proofs.Common.{◌≡◌, ℕ, List, map, sym, ap, subst, ◌∙◌, rules, IsSorted, eqb}
-use Rattle.std.specs.Ordering.{nat_cmp}
+use Rattle.std.proofs.Common.{◌≡◌, map, ap, ◌∙◌, rules, eqb}
 use Rattle.std.specs.List.{dedup}
 use Rattle.std.proofs.lemmas.List.Filters.{dedup_is}
-use Rattle.un_defs.specs.Orders.{rising}
 use Rattle.un_trace.proofs.Rise.{number_of}
 use Rattle.un_trace.proofs.Firsts.{dedup_rising}
 use Rattle.un_trace.proofs.features.numbers_of.Goals as goal

@@ -1,4 +1,4 @@
-use Rattle.std.proofs.Common.{◌≡◌, [], ◌++◌, ap, sym, ◌∙◌}
+use Rattle.std.proofs.Common.{[], ◌++◌, sym, ◌∙◌}
 use Rattle.std.specs.Map.Iter.{deref}
 use Rattle.un_attrs.specs.Attributes.{attribute}
 use Rattle.un_defs.specs.declared.star.Spot.{Spot}

@@ -1,4 +1,4 @@
-use Rattle.std.proofs.Common.{◌≡◌, List, [], ◌++◌, flat_map, fold, take, take_all, sym, ap, ◌∙◌, rules, append-nil}
+use Rattle.std.proofs.Common.{◌≡◌, List, [], flat_map, take, take_all, sym, ap, ◌∙◌, rules}
 use Rattle.std.specs.Ordering.{nat_cmp}
 use Rattle.std.specs.BTreeSet.{insert_key}
 use Rattle.std.specs.Option.{option_map_or}
