@@ -23,7 +23,7 @@ none_due (Some r) ds e = let none : Some r ≡ None = e in cc
 
 -- ---- the configuration of a kind
 
-config_is : (S : Catalog) → IsCatalog S → (k : ℕ) → IfSome (config_of S k) IsPathSet
+pub config_is : (S : Catalog) → IsCatalog S → (k : ℕ) → IfSome (config_of S k) IsPathSet
 config_is S is k = of_kind_at (kind_at S k)
   where
     of_place : (n : ℕ) → (o : Option PathSet) → slice_get S.configs n ≡ o → IfSome o IsPathSet
@@ -38,11 +38,11 @@ config_is S is k = of_kind_at (kind_at S k)
     of_kind_at None = tt
     of_kind_at (Some kind) = of_number kind.config
 
-some_terminals : (o : Option PathSet) → IfSome o IsPathSet → 1 ≤ option_map_or (λ c. c.config.terminals) o 1
+pub some_terminals : (o : Option PathSet) → IfSome o IsPathSet → 1 ≤ option_map_or (λ c. c.config.terminals) o 1
 some_terminals None is = omega arith
 some_terminals (Some c) is = omega (arith, is.config.enough)
 
-has_first : (o : Option PathSet) → IfSome o IsPathSet → IfSome (option_map (λ c. 0) o) (λ path. IsSomeAnd o (λ c. IsSome (slice_get c.config.paths path)))
+pub has_first : (o : Option PathSet) → IfSome o IsPathSet → IfSome (option_map (λ c. 0) o) (λ path. IsSomeAnd o (λ c. IsSome (slice_get c.config.paths path)))
 has_first None is = tt
 has_first (Some c) is = some_at c.config.paths 0 (omega (arith, is.config.some))
 
@@ -52,7 +52,7 @@ good_places : (o : Option ℕ) → option_map (λ place. refusal.BadShape place)
 good_places None e = refl
 good_places (Some place) e = let none : Some (refusal.BadShape place) ≡ None = e in cc
 
-shape_count : (class : Class) (points : List (List ℤ)) → bad_shape class points ≡ None → (least_points class ≤ length points) × (length points ≤ most_points class)
+pub shape_count : (class : Class) (points : List (List ℤ)) → bad_shape class points ≡ None → (least_points class ≤ length points) × (length points ≤ most_points class)
 shape_count class points e = good_count (least_points class) (most_points class) points (good_places (bad_place (least_points class) (most_points class) points) e)
 
 pub insert_fits : InsertFitsLaw

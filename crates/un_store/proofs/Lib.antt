@@ -3,3 +3,4 @@ pub mod Dues
 pub mod Makings
 mod Samples
 pub mod Fitting
+pub mod EditsFit

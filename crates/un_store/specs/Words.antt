@@ -38,3 +38,16 @@ IsNote _ = ⊥
 abbrev pub IsDelete : Edit → Type 0
 IsDelete (edit.Delete id base) = ⊤
 IsDelete _ = ⊥
+
+-- the edits of rows
+abbrev pub IsRowEdit : Edit → Type 0
+IsRowEdit (edit.Insert kind points attrs flow ends note) = ⊤
+IsRowEdit (edit.Reshape id base points) = ⊤
+IsRowEdit (edit.Attrs id base attrs) = ⊤
+IsRowEdit (edit.Kind id base kind) = ⊤
+IsRowEdit (edit.Path id base path) = ⊤
+IsRowEdit (edit.Flow id base flow) = ⊤
+IsRowEdit (edit.Ends id base ends) = ⊤
+IsRowEdit (edit.Note id base note) = ⊤
+IsRowEdit (edit.Delete id base) = ⊤
+IsRowEdit _ = ⊥

@@ -10,6 +10,7 @@
 #![tactic(auto)]
 
 mod checks;
+pub mod edit;
 pub mod edits;
 pub mod insert;
 pub mod laws;

@@ -1,4 +1,4 @@
-use Rattle.std.proofs.Common.{◌≡◌, ◌∙◌, ap, sym}
+use Rattle.std.proofs.Common.{◌∙◌, ap, sym}
 use Rattle.un_store.specs.Edits.{at_moment}
 use Rattle.un_store.proofs.Held.{none_touched, found_id}
 use Rattle.un_store.proofs.store.Store.settle_one.Goals as goal

@@ -1,0 +1,48 @@
+//! Any edit of rows.
+ghost use Rattle.std.specs.Prelude.{◌≡◌, ◌≢◌, ◌<◌, All, Some, None, IfOk, OnOk, IfErr};
+ghost use Rattle.un_defs.specs.declared.refusal.Refusal.TheVariants.{Memory};
+ghost use Rattle.un_defs.specs.Sound.{FitsKind};
+ghost use Rattle.un_store.specs.Words.{IsRowEdit};
+ghost use Rattle.un_store.specs.Refusals.{refusal_of};
+ghost use Rattle.un_store.specs.Edits.{rows_after};
+
+use crate::store::Store;
+use std::alloc::Global;
+use un_defs::{Edit, Refusal};
+use un_schema::Schema;
+
+impl Store {
+    /// The rows after an edit of a row, by its word.
+    ///
+    /// It is refused as by the call of its word: `NoSuchFeature`, `Moved`, `NoSuchKind`, `WrongKind`, `BadShape`, `BadAttribute`,
+    /// `BadPath` or `Full`, whichever of them is due first there.
+    pub fn edit(
+        &self,
+        alloc: Global,
+        edit: &Edit,
+        schema: &Schema,
+        next: u64,
+        moment: u64,
+    ) -> Result<Store, Refusal>
+        requires word { IsRowEdit edit.now }
+        requires next { All (λ r. r.id < next) self.now }
+        requires fitting { All (FitsKind schema.now) self.now }
+        ensures rows { IfOk result (λ store. store ≡ rows_after schema.now next moment self.now edit.now) }
+        ensures good { OnOk result (refusal_of schema.now self.now edit.now ≡ None) }
+        ensures bad { IfErr result (λ refusal. refusal ≢ Memory → refusal_of schema.now self.now edit.now ≡ Some refusal) }
+    {
+        let _rules = schema.rules();
+        match edit {
+            Edit::Insert { .. } => self.insert(alloc, edit, schema, next, moment),
+            Edit::Reshape { .. } => self.reshape(alloc, edit, schema, next, moment),
+            Edit::Attrs { .. } => self.attrs(alloc, edit, schema, next, moment),
+            Edit::Kind { .. } => self.kind(alloc, edit, schema, next, moment),
+            Edit::Path { .. } => self.path(alloc, edit, schema, next, moment),
+            Edit::Flow { .. } => self.flow(alloc, edit, schema, next, moment),
+            Edit::Ends { .. } => self.ends(alloc, edit, schema, next, moment),
+            Edit::Note { .. } => self.note(alloc, edit, schema, next, moment),
+            Edit::Delete { .. } => self.delete(alloc, edit, schema, next, moment),
+            _ => unreachable!(),
+        }
+    }
+}
