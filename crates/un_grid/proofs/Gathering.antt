@@ -19,10 +19,9 @@ use Rattle.un_grid.proofs.Putting.{Entries, at_point, sorted_nil}
 use Rattle.un_grid.proofs.Inserting.{insert_rising, map-append}
 
 -- no node yet
-pub none_yet : (old grid : Entries) → IsGrid old → grid ≡ old → HasNodes old [] grid
-none_yet old grid is same p =
-    ap (λ g. ports_in g p) same
-    ∙ rising_unique port_total (ports_in old p) (ports_in old p) (λ a b _ _ e. port_ties a b e)
+pub none_yet : (old : Entries) → IsGrid old → HasNodes old [] old
+none_yet old is p =
+    rising_unique port_total (ports_in old p) (ports_in old p) (λ a b _ _ e. port_ties a b e)
     (at_point (IsStrictlySortedBy port_cmp) sorted_nil old (λ l i. from_all (IsStrictlySortedBy port_cmp) (values_of old) is.rising l i) p) (λ x h. h) (λ x h. h)
     ∙ ap (rising port_cmp) (sym (append-nil (ports_in old p)))
 

@@ -15,7 +15,7 @@ use Rattle.un_defs.proofs.ListLemmas.{filter-append}
 use Rattle.un_grid.specs.Grids.{InsertLaw}
 
 -- two lists with the same ports are one when sorted
-same : (xs ys : List Port) → ((q : Port) → Among xs q → Among ys q) → ((q : Port) → Among ys q → Among xs q) → rising port_cmp xs ≡ rising port_cmp ys
+pub same : (xs ys : List Port) → ((q : Port) → Among xs q → Among ys q) → ((q : Port) → Among ys q → Among xs q) → rising port_cmp xs ≡ rising port_cmp ys
 same xs ys = rising_same port_total xs ys (λ a b _ _ e. port_ties a b e) (λ a b _ _ e. port_ties a b e)
 
 -- one port more in a sorted list

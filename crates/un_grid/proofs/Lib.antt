@@ -3,3 +3,7 @@ pub mod Places
 pub mod Putting
 pub mod Numbered
 pub mod Gathering
+pub mod Taking
+pub mod Leaving
+pub mod Rows
+pub mod Changing

@@ -1,13 +1,13 @@
-ghost use Rattle.std.specs.Prelude.{◌≡◌, [], ◌++◌, IfOk, OnOk, map, if◌then◌else◌};
+ghost use Rattle.std.specs.Prelude.{◌≡◌, [], ◌++◌, IfOk, OnOk, map, filter, not, if◌then◌else◌};
 ghost use Rattle.std.specs.BTreeSet.{insert_key};
 ghost use Rattle.un_geom.specs.declared.point.Point.{Point};
 ghost use Rattle.un_geom.specs.Places.{same_point};
 ghost use Rattle.un_points.specs.PointMaps.{covered};
-ghost use Rattle.un_defs.specs.Orders.{port_cmp};
-ghost use Rattle.un_grid.specs.Grids.{ports_in, IsGrid, HasNodes, HasRow};
+ghost use Rattle.un_defs.specs.Orders.{port_cmp, same_port};
+ghost use Rattle.un_grid.specs.Grids.{ports_in, IsGrid, HasNodes, HasRow, LacksNodes, LacksRow, HasInPlace};
 
 use crate::nodes::nodes_of;
-use crate::port_list::with_port;
+use crate::port_list::{with_port, without_port};
 use std::alloc::{AllocError, Global};
 use std::marker::Model;
 use std::sync::Arc;
@@ -84,15 +84,39 @@ impl Grid {
         Ok(())
     }
 
-    // The grid with the ports of some nodes besides its own.
-    fn with_nodes(&self, alloc: Global, nodes: &[Node]) -> Result<Grid, AllocError>
-        ensures { IfOk result (HasNodes self.now nodes.now) }
+    // Takes one port out at a point.
+    fn take_port(&mut self, alloc: Global, p: Point, port: Port) -> Result<(), AllocError>
+        ensures { OnOk result ((r : Point) → ports_in self.new r ≡ (if same_point r p then filter (λ q. not (same_port q port)) (ports_in self.old r) else ports_in self.old r)) }
     {
-        let mut grid = self.share()?;
-        for node in nodes {
-            grid.put_port(alloc, node.at, node.port)?;
+        let ports = without_port(alloc, self.at(p), port)?;
+        if ports.is_empty() {
+            self.points.take(alloc, p)?;
+            return Ok(());
         }
-        Ok(grid)
+        let shared = Arc::new(alloc, Ports::new(ports))?;
+        self.points.put(alloc, p, shared)?;
+        Ok(())
+    }
+
+    // Puts the ports of some nodes in.
+    fn put_nodes(&mut self, alloc: Global, nodes: &[Node]) -> Result<(), AllocError>
+        ensures { OnOk result (HasNodes self.old nodes.now self.new) }
+    {
+        let _ = &self.points;
+        for node in nodes {
+            self.put_port(alloc, node.at, node.port)?;
+        }
+        Ok(())
+    }
+
+    // Takes the ports of some nodes out.
+    fn take_nodes(&mut self, alloc: Global, nodes: &[Node]) -> Result<(), AllocError>
+        ensures { OnOk result (LacksNodes self.old nodes.now self.new) }
+    {
+        for node in nodes {
+            self.take_port(alloc, node.at, node.port)?;
+        }
+        Ok(())
     }
 
     /// The grid with the ports of the row besides its own.
@@ -100,6 +124,30 @@ impl Grid {
         ensures { IfOk result (λ g. HasRow self.now g row.now) }
     {
         let nodes = nodes_of(alloc, row)?;
-        self.with_nodes(alloc, &nodes)
+        let mut grid = self.share()?;
+        grid.put_nodes(alloc, &nodes)?;
+        Ok(grid)
+    }
+
+    /// The grid without the ports of the row.
+    pub fn remove(&self, alloc: Global, row: &Row) -> Result<Grid, AllocError>
+        ensures { IfOk result (λ g. LacksRow self.now g row.now) }
+    {
+        let nodes = nodes_of(alloc, row)?;
+        let mut grid = self.share()?;
+        grid.take_nodes(alloc, &nodes)?;
+        Ok(grid)
+    }
+
+    /// The grid with the ports of the second row in place of those of the first.
+    pub fn replace(&self, alloc: Global, old: &Row, new: &Row) -> Result<Grid, AllocError>
+        ensures { IfOk result (λ g. HasInPlace self.now g old.now new.now) }
+    {
+        let gone = nodes_of(alloc, old)?;
+        let come = nodes_of(alloc, new)?;
+        let mut grid = self.share()?;
+        grid.take_nodes(alloc, &gone)?;
+        grid.put_nodes(alloc, &come)?;
+        Ok(grid)
     }
 }

@@ -24,5 +24,5 @@ mod port_list;
 mod tests;
 
 pub use grid::Grid;
-pub use laws::insert_law;
+pub use laws::{insert_law, remove_law, replace_law, stay_law};
 pub use nodes::port_node;

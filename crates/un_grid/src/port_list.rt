@@ -1,9 +1,9 @@
 //! Short lists of ports, rising.
-ghost use Rattle.std.specs.Prelude.{◌≡◌, ◌≢◌, ◌≤◌, true, false, not, IfOk, Some, slice_get, length, position};
+ghost use Rattle.std.specs.Prelude.{◌≡◌, ◌≢◌, ◌≤◌, true, false, not, filter, IfOk, Some, slice_get, length, position};
 ghost use Rattle.std.specs.Ordering.{is_gt};
 ghost use Rattle.std.specs.List.{position_or_len};
 ghost use Rattle.std.specs.BTreeSet.{insert_key};
-ghost use Rattle.un_defs.specs.Orders.{port_cmp};
+ghost use Rattle.un_defs.specs.Orders.{port_cmp, same_port};
 
 use std::alloc::{AllocError, Global};
 use un_defs::Port;
@@ -71,4 +71,15 @@ pub fn with_port(alloc: Global, ports: &[Port], port: Port) -> Result<Vec<Port>,
         return copy_of(alloc, ports);
     }
     with_new(alloc, ports, place, port)
+}
+
+/// The list without a port: an equal list, where the port is not in it.
+pub fn without_port(alloc: Global, ports: &[Port], port: Port) -> Result<Vec<Port>, AllocError>
+    ensures { IfOk result (λ rest. rest.items ≡ filter (λ q. not (same_port q port)) ports.now) }
+{
+    ports
+        .iter()
+        .copied()
+        .filter(|other| *other != port)
+        .collect(alloc)
 }

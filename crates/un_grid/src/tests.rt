@@ -1,5 +1,5 @@
 //! Each public call once, with memory enough.
-use crate::{Grid, insert_law};
+use crate::{Grid, insert_law, remove_law, replace_law, stay_law};
 use std::alloc::{AllocError, Global};
 use std::test::Fail;
 use un_attrs::Attrs;
@@ -93,5 +93,49 @@ fn points_under_a_rectangle_rise(rt: HostRuntime) -> Result<(), Fail> {
         grid.points(rt.alloc(), all)?.as_slice(),
         [at(0), at(5)].as_slice()
     );
+    Ok(())
+}
+
+// A grid with the line and the device.
+fn line_and_valve(alloc: Global) -> Result<Grid, Fail> {
+    let line = Grid::new(alloc).insert(alloc, &there_and_back(alloc)?)?;
+    Ok(line.insert(alloc, &valve(alloc)?)?)
+}
+
+// The same grid, the line taken out.
+fn without_line(alloc: Global) -> Result<Grid, Fail> {
+    let row = there_and_back(alloc)?;
+    Ok(line_and_valve(alloc)?.remove(alloc, &row)?)
+}
+
+// Line 7 from (5, 0) to (9, 0).
+fn onward(alloc: Global) -> Result<Row, Fail> {
+    Ok(row(alloc, 7, Class::Line, 0, &[[5, 0, 0], [9, 0, 0]])?.ok_or("a line")?)
+}
+
+// The grid with the line and the device, the line moved.
+fn with_line_moved(alloc: Global) -> Result<Grid, Fail> {
+    let old = there_and_back(alloc)?;
+    let new = onward(alloc)?;
+    Ok(line_and_valve(alloc)?.replace(alloc, &old, &new)?)
+}
+
+#[test]
+fn one_row_of_two_at_a_point_is_taken_out(rt: HostRuntime) -> Result<(), Fail> {
+    remove_law();
+    let grid = without_line(rt.alloc())?;
+    assert_eq!(rt; grid.at(at(0)), [port(3, 1), port(3, 2)].as_slice());
+    assert!(rt; grid.at(at(5)).is_empty());
+    Ok(())
+}
+
+#[test]
+fn a_row_that_moves_takes_its_ports_along(rt: HostRuntime) -> Result<(), Fail> {
+    replace_law();
+    stay_law();
+    let grid = with_line_moved(rt.alloc())?;
+    assert_eq!(rt; grid.at(at(0)), [port(3, 1), port(3, 2)].as_slice());
+    assert_eq!(rt; grid.at(at(5)), [port(7, 0)].as_slice());
+    assert_eq!(rt; grid.at(at(9)), [port(7, 1)].as_slice());
     Ok(())
 }
