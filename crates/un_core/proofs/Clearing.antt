@@ -1,5 +1,5 @@
 -- What a validation does, and the errors of which it tells.
-use Rattle.std.proofs.Common.{◌≡◌, ◌≢◌, Bool, true, false, map, filter, refl, sym, ap, ◌∙◌}
+use Rattle.std.proofs.Common.{◌≡◌, ◌≢◌, Bool, true, false, map, refl, sym, ap, ◌∙◌}
 use Rattle.std.proofs.lemmas.List.Kept.{IsStrictlySortedBy-filter}
 use Rattle.un_geom.specs.declared.point.Point.{Point}
 use Rattle.un_geom.specs.Rectangle.{Rectangle}

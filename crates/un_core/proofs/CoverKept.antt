@@ -1,5 +1,5 @@
 -- What might happen to a state leaves a state.
-use Rattle.std.proofs.Common.{◌≡◌, ◌≢◌, ℕ, zero, suc, ◌<◌, Bool, true, false, not, List, [], ◌∷◌, ◌++◌, length, get_or, refl, sym, ◌∙◌, subst, All, IsFalse, inl, inr, arith}
+use Rattle.std.proofs.Common.{◌≡◌, ◌≢◌, ℕ, zero, suc, ◌+◌, ◌<◌, Bool, true, false, not, List, [], ◌∷◌, ◌++◌, length, get_or, refl, sym, ◌∙◌, subst, All, IsFalse, inl, inr, arith}
 use Rattle.std.specs.List.{list_any, enumerate_from}
 use Rattle.std.proofs.lemmas.List.Folds.{list_any-append}
 use Rattle.std.proofs.lemmas.List.Elements.{All-filter}
@@ -12,7 +12,7 @@ use Rattle.un_defs.specs.Star.{star, empty_star}
 use Rattle.un_defs.specs.Change.{Next, changed, after}
 use Rattle.un_defs.specs.Features.{Features}
 use Rattle.un_defs.specs.Stain.{stain}
-use Rattle.un_defs.specs.Laws.{AreNew}
+use Rattle.un_defs.specs.Laws.{AreNew, MayBeMade}
 use Rattle.un_defs.proofs.Rising.{Among}
 use Rattle.un_defs.proofs.Unique.{from_all}
 use Rattle.un_defs.proofs.Locality.{locality, or_both}
@@ -20,12 +20,13 @@ use Rattle.un_defs.proofs.KeepsSound.{keeps_sound}
 use Rattle.un_index.specs.Kept.{stars_of}
 use Rattle.un_core.specs.State.{State, fresh_star}
 use Rattle.un_core.specs.Validation.{met, unmet, is_under, rebuilt}
-use Rattle.un_core.specs.Step.{edits, validates, setting, next_of, edited, with_rules}
+use Rattle.un_core.specs.Step.{edits, batches, validates, setting, next_with, next_of, made_at, edited, made_by_all, touched_by_all, settled_at, batched, with_rules}
 use Rattle.un_core.specs.Validation.{validated}
-use Rattle.un_core.specs.Cover.{IsState, MayHappen, CoverLaw}
+use Rattle.un_core.specs.Cover.{IsState, MayAllBeMade, MayHappen, CoverLaw}
 use Rattle.un_core.proofs.NextIds.{new_after}
 use Rattle.un_core.proofs.Covered.{sound_with, star_with}
 use Rattle.un_core.proofs.LookUps.{sorted_map}
+use Rattle.un_core.proofs.Settled.{settled_state}
 use Rattle.un_core.proofs.Rebuilding.{rebuilt_under, rebuilt_elsewhere, rebuilt_sorted, rebuilt_told}
 use Rattle.un_core.proofs.Numbers.{numbered_more, under_more, any_enumerated, any_split}
 
@@ -41,33 +42,53 @@ all_from P xs h k d l = h (get_or xs k d) (among_at xs k d l)
 same_ids : (next other : Next) (F : Features) → next.feature ≡ other.feature → next.association ≡ other.association → AreNew next F → AreNew other F
 same_ids next other F e g new = record { feature = subst (λ n. All (λ r. r.id < n) F.rows) e new.feature; association = subst (λ n. All (λ a. a.id < n) F.associations) g new.association }
 
+-- neither is any of the rest told by the version
+at_version : (s : State) (version : ℕ) → IsState s → IsState (record s { version = version })
+at_version s version is = record {
+  sound = is.sound;
+  rules = is.rules;
+  fresh_ids = same_ids (next_of s) (next_of (record s { version = version })) s.features refl refl is.fresh_ids;
+  numbered = is.numbered;
+  numbers = is.numbers;
+  sorted = is.sorted;
+  told = is.told;
+  cover = is.cover;
+}
+
 module _ (s : State) (is : IsState s) where
-  -- ---- an edit
+  -- ---- an edit, made at a moment
 
-  module _ (e : Edit) (may : MayHappen s (edits e)) where
+  module _ (moment : ℕ) (e : Edit) (may : MayBeMade (setting s) (next_with s moment) s.features e) where
     abbrev next_features : Features
-    next_features = changed (setting s) (next_of s) s.features e
+    next_features = changed (setting s) (next_with s moment) s.features e
 
-    edited_cover : (p : Point) → IsFalse (list_any (λ area. covers area.1 p) (s.areas ++ enumerate_from s.next_area (stain s.features e)))
+    new : AreNew (next_with s moment) s.features
+    new = same_ids (next_of s) (next_with s moment) s.features refl refl is.fresh_ids
+
+    made_cover : (p : Point) → IsFalse (list_any (λ area. covers area.1 p) (s.areas ++ enumerate_from s.next_area (stain s.features e)))
         → stars_of s.kept p ≡ star (with_rules s.catalog next_features.rules) next_features p
-    edited_cover p h =
+    made_cover p h =
         let both = or_both (list_any (λ area. covers area.1 p) s.areas) (list_any (λ area. covers area.1 p) (enumerate_from s.next_area (stain s.features e)))
         (sym (list_any-append (λ area. covers area.1 p) s.areas (enumerate_from s.next_area (stain s.features e))) ∙ h) in
         is.cover p both.0
-        ∙ sym (locality (setting s) (next_of s) s.features e is.sound is.fresh_ids may p (sym (any_enumerated (λ r. covers r p) s.next_area (stain s.features e)) ∙ both.1))
+        ∙ sym (locality (setting s) (next_with s moment) s.features e is.sound new may p (sym (any_enumerated (λ r. covers r p) s.next_area (stain s.features e)) ∙ both.1))
         ∙ sym (star_with s.catalog next_features next_features.rules p)
 
-    pub edited_state : IsState (edited s e)
-    edited_state = record {
-      sound = sound_with s.catalog next_features next_features.rules (keeps_sound (setting s) (next_of s) s.features e is.sound is.fresh_ids may);
+    pub made_state : IsState (made_at moment s e)
+    made_state = record {
+      sound = sound_with s.catalog next_features next_features.rules (keeps_sound (setting s) (next_with s moment) s.features e is.sound new may);
       rules = refl;
-      fresh_ids = same_ids (after (next_of s) e) (next_of (edited s e)) next_features refl refl (new_after (setting s) (next_of s) s.features e is.fresh_ids);
+      fresh_ids = same_ids (after (next_with s moment) e) (next_of (made_at moment s e)) next_features refl refl (new_after (setting s) (next_with s moment) s.features e new);
       numbered = numbered_more s.areas (stain s.features e) s.next_area is.numbered is.numbers;
       numbers = under_more s.areas (stain s.features e) s.next_area is.numbers;
       sorted = is.sorted;
       told = is.told;
-      cover = edited_cover;
+      cover = made_cover;
     }
+
+  -- the edit is a step to the next version
+  pub edited_state : (e : Edit) → MayHappen s (edits e) → IsState (edited s e)
+  edited_state e may = at_version (made_at (s.version + 1) s e) (s.version + 1) (made_state (s.version + 1) e may)
 
   -- ---- a validation
 
@@ -94,6 +115,20 @@ module _ (s : State) (is : IsState s) where
       cover = validated_cover;
     }
 
+-- ---- a batch
+
+pub made_all_state : (s : State) (es : List Edit) → IsState s → MayAllBeMade s es → IsState (made_by_all s es)
+made_all_state s [] is may = is
+made_all_state s (e ∷ es) is may = made_all_state (made_at 0 s e) es (made_state s is 0 e may.0) may.1
+
+pub batched_state : (s : State) (es : List Edit) → IsState s → MayHappen s (batches es) → IsState (batched s es)
+batched_state s es is may =
+    at_version (record (made_by_all s es) { features = settled_at (s.version + 1) (touched_by_all s es) (made_by_all s es).features }) (s.version + 1)
+    (settled_state (made_by_all s es) (s.version + 1) (touched_by_all s es) (made_all_state s es is may))
+
+-- ---- all
+
 pub cover_is_kept : CoverLaw
 cover_is_kept s (edits e) is may = edited_state s is e may
+cover_is_kept s (batches es) is may = batched_state s es is may
 cover_is_kept s (validates extent) is may = validated_state s is extent

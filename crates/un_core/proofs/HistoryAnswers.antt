@@ -10,13 +10,13 @@ use Rattle.un_ask.specs.declared.query.Asked.TheVariants.{Version, Dirty, Errors
 use Rattle.un_ask.specs.declared.reply.Reply.TheVariants as reply
 use Rattle.un_trace.specs.Told.{told, mode_of}
 use Rattle.un_core.specs.Validation.{met}
-use Rattle.un_core.specs.Step.{Event, edits, validates}
+use Rattle.un_core.specs.Step.{Event, edits, batches, validates}
 use Rattle.un_core.specs.History.{after_all, history_ground, points_before}
 use Rattle.un_core.specs.Cover.{IsState, MayAllHappen, IsTold}
 use Rattle.un_core.specs.Walked.{reached}
 use Rattle.un_core.specs.Answers.{at_version, connected_from, query_due, refused, start_nodes, starts_due, asked, traced_kept}
 use Rattle.un_core.specs.Traces.{traced_fresh, traced_after}
-use Rattle.un_core.specs.Commands.{event_of, event_due, accepted, reply_to}
+use Rattle.un_core.specs.Commands.{event_of, event_due, event_refused, accepted, reply_to}
 use Rattle.un_core.specs.Clearing.{fresh_errors}
 use Rattle.un_core.specs.HistoryAnswers.{traced_afresh, traced_by_mode, asked_after, accepted_after, event_reply_after, ReplyLaw, AnswerLaw}
 use Rattle.un_core.proofs.Opening.{all_states}
@@ -59,6 +59,7 @@ module _ (S : Catalog) (history : List Event) (may : MayAllHappen S history) whe
 
   accepted_so : (e : Event) → accepted (after_all S history) e ≡ accepted_after S history e
   accepted_so (edits e) = refl
+  accepted_so (batches es) = refl
   accepted_so (validates extent) =
       λ i. reply.Validated (length (met extent (is_told.areas i)))
       (((validation_does (after_all S history) extent is).tells ∙ ap (λ areas. fresh_errors (after_all S history) (met extent areas)) is_told.areas) i)
@@ -66,7 +67,7 @@ module _ (S : Catalog) (history : List Event) (may : MayAllHappen S history) whe
 
   replied_so : (o : Option Event) → reply_to (after_all S history) o ≡ event_reply_after S history o
   replied_so None = refl
-  replied_so (Some e) = ap (option_map_or (refused (after_all S history)) (event_due (after_all S history) e)) (accepted_so e)
+  replied_so (Some e) = ap (option_map_or (event_refused (after_all S history) e) (event_due (after_all S history) e)) (accepted_so e)
 
 pub history_replies : ReplyLaw
 history_replies S history c may = replied_so S history may (event_of c)

@@ -1,16 +1,18 @@
 -- What is kept, and what is dirty, is what the history tells.
-use Rattle.std.proofs.Common.{◌≡◌, ◌||◌, ◌&&◌, Bool, true, false, not, cond, List, [], ◌∷◌, ◌++◌, filter, refl, sym, ap, ◌∙◌, if◌then◌else◌}
-use Rattle.std.specs.List.{list_any}
-use Rattle.std.proofs.lemmas.List.{append-nil}
+use Rattle.std.proofs.Common.{◌≡◌, ◌||◌, ◌&&◌, ℕ, ◌+◌, Bool, true, false, not, cond, List, [], ◌∷◌, ◌++◌, length, filter, refl, sym, ap, ◌∙◌, arith, if◌then◌else◌}
+use Rattle.std.specs.List.{list_any, enumerate_from}
+use Rattle.std.proofs.lemmas.List.{append-nil, append_assoc}
 use Rattle.un_geom.specs.declared.point.Point.{Point}
 use Rattle.un_geom.specs.Rectangle.{Rectangle}
 use Rattle.un_geom.specs.Places.{covers, meets}
 use Rattle.un_schema.specs.Catalog.{Catalog}
+use Rattle.un_defs.specs.declared.edit.Edit.{Edit}
+use Rattle.un_defs.specs.Stain.{stain}
 use Rattle.un_defs.proofs.ListLemmas.{filter-append}
 use Rattle.un_index.specs.Kept.{stars_of}
-use Rattle.un_core.specs.State.{fresh_star}
+use Rattle.un_core.specs.State.{State, fresh_star}
 use Rattle.un_core.specs.Validation.{met, unmet, is_under, rebuilt}
-use Rattle.un_core.specs.Step.{Event, edits, validates}
+use Rattle.un_core.specs.Step.{Event, edits, batches, validates, made_at, made_by_all, stain_of_batch}
 use Rattle.un_core.specs.History.{after_all, made_by, clears, alive_under, dirty_after, kept_after, rebuilds}
 use Rattle.un_core.specs.Cover.{IsState, IsTold, HistoryLaw}
 use Rattle.un_core.proofs.LookUps.{sorted_map}
@@ -66,6 +68,35 @@ alive_later S later e (d ∷ before) =
     made = filter_both (λ area. not (clears area e)) (λ area. not (list_any (clears area) later)) (λ area. not (list_any (clears area) (later ++ e ∷ [])))
         (λ area. any_pushed (clears area) later e) (made_by (after_all S before) d)
 
+-- an event that clears nothing leaves the areas that it makes behind those that were there
+grown : (S : Catalog) (e : Event) (before : List Event) → ((area : ℕ × Rectangle) → clears area e ≡ false) → IsTold S before
+    → (after_all S before).areas ++ made_by (after_all S before) e ≡ dirty_after S (e ∷ before)
+grown S e before none told = λ i. (told.areas ∙ stays ∙ sym (alive_later S [] e before)) i ++ sym (filter_all (made_by (after_all S before) e)) i
+  where
+    stays : dirty_after S before ≡ filter (λ area. not (clears area e)) (dirty_after S before)
+    stays = sym (filter_all (dirty_after S before)) ∙ (λ i. filter (λ area. not (sym (none area) i)) (dirty_after S before))
+
+-- ---- batches
+
+enumerate_both : {A : Type 0} (first : ℕ) (xs ys : List A) → enumerate_from first (xs ++ ys) ≡ enumerate_from first xs ++ enumerate_from (first + length xs) ys
+enumerate_both first [] ys = ap (λ n. enumerate_from n ys) (omega arith)
+enumerate_both first (x ∷ xs) ys =
+    ap (λ l. (first, x) ∷ l) (enumerate_both (first + 1) xs ys ∙ ap (λ n. enumerate_from (first + 1) xs ++ enumerate_from n ys) (omega arith))
+
+-- a batch makes the areas of its edits, and keeps the topology
+pub made_areas : (s : State) (es : List Edit) → (made_by_all s es).areas ≡ s.areas ++ enumerate_from s.next_area (stain_of_batch s es)
+made_areas s [] = sym (append-nil s.areas)
+made_areas s (e ∷ es) =
+    let first = enumerate_from s.next_area (stain s.features e) in
+    let rest = stain_of_batch (made_at 0 s e) es in
+    made_areas (made_at 0 s e) es
+    ∙ append_assoc s.areas first (enumerate_from (s.next_area + length (stain s.features e)) rest)
+    ∙ ap (λ l. s.areas ++ l) (sym (enumerate_both s.next_area (stain s.features e) rest))
+
+pub made_kept : (s : State) (es : List Edit) → (made_by_all s es).kept ≡ s.kept
+made_kept s [] = refl
+made_kept s (e ∷ es) = made_kept (made_at 0 s e) es
+
 -- ---- stars
 
 validated_kept : (S : Catalog) (before : List Event) (extent : Rectangle) (p : Point) → IsState (after_all S before) → IsTold S before
@@ -87,9 +118,12 @@ pub kept_is_history : HistoryLaw
 kept_is_history S [] may = record { areas = refl; kept = λ p. refl }
 kept_is_history S (edits e ∷ before) may =
     let told = kept_is_history S before may.1 in
+    record { areas = grown S (edits e) before (λ area. refl) told; kept = told.kept }
+kept_is_history S (batches es ∷ before) may =
+    let told = kept_is_history S before may.1 in
     record {
-      areas = λ i. (told.areas ∙ sym (filter_all (dirty_after S before)) ∙ sym (alive_later S [] (edits e) before)) i ++ sym (filter_all (made_by (after_all S before) (edits e))) i;
-      kept = told.kept;
+      areas = made_areas (after_all S before) es ∙ grown S (batches es) before (λ area. refl) told;
+      kept = λ p. ap (λ kept. stars_of kept p) (made_kept (after_all S before) es) ∙ told.kept p;
     }
 kept_is_history S (validates extent ∷ before) may =
     let told = kept_is_history S before may.1 in

@@ -6,6 +6,7 @@ pub mod Covered
 pub mod LookUps
 pub mod Rebuilding
 pub mod Numbers
+pub mod Settled
 pub mod CoverKept
 pub mod Opening
 pub mod HistoryKept
@@ -15,10 +16,13 @@ pub mod Telling
 pub mod Replaced
 pub mod Grounds
 pub mod Listed
-pub mod Inserted
+pub mod Edited
+pub mod Batching
+pub mod BatchReplies
 pub mod Pointed
 pub mod Rebuilt
 pub mod Applying
+pub mod Alone
 pub mod Led
 pub mod Clearing
 pub mod HistoryAnswers

@@ -159,3 +159,10 @@ asked s (Trace ask) = traced s ask
 -- what a query is answered
 abbrev pub answer : State → Query → Reply
 answer s q = option_map_or (refused s) (query_due s q) (asked s q.what)
+
+-- ---- look-ups
+
+-- the nodes that a trace reaches; no other query reaches any
+abbrev pub reached_by : State → Asked → List Node
+reached_by s (Trace ask) = reached_kept s (connected_from ask (start_nodes s ask.starts))
+reached_by s what = []

@@ -3,6 +3,7 @@ use Rattle.std.specs.Prelude.{◌≡◌, ◌≢◌, ◌<◌, List, [], ◌∷◌
 use Rattle.std.specs.List.Sorted.{IsStrictlySortedBy}
 use Rattle.un_geom.specs.declared.point.Point.{Point}
 use Rattle.un_schema.specs.Catalog.{Catalog}
+use Rattle.un_defs.specs.declared.edit.Edit.{Edit}
 use Rattle.un_defs.specs.Star.{empty_star}
 use Rattle.un_defs.specs.Sound.{IsSound}
 use Rattle.un_defs.specs.Ground.{AreNumbered}
@@ -10,7 +11,7 @@ use Rattle.un_defs.specs.Laws.{IsCovered, AreNew, MayBeMade}
 use Rattle.un_index.specs.Kept.{stars_of}
 use Rattle.un_core.specs.State.{State, kept_ground}
 use Rattle.un_core.specs.Validation.{by_point}
-use Rattle.un_core.specs.Step.{Event, edits, validates, setting, next_of, step}
+use Rattle.un_core.specs.Step.{Event, edits, batches, validates, setting, next_with, next_of, made_at, step}
 use Rattle.un_core.specs.History.{after_all, dirty_after, kept_after}
 
 -- the features are sound, the next ids and numbers are new, and each point that no dirty area covers has its fresh star
@@ -24,9 +25,15 @@ pub record IsState (s : State) : Type 0 where
   pub told : All (λ pair. pair.1 ≢ empty_star) s.kept
   pub cover : IsCovered s.catalog s.features (kept_ground s)
 
--- an edit that is accepted may be made; it changes no rules, which are those of the schema; a validation is always accepted
+-- each edit of a batch may be made on what the ones before it left
+abbrev pub MayAllBeMade : State → List Edit → Type 0
+MayAllBeMade s [] = ⊤
+MayAllBeMade s (e ∷ es) = MayBeMade (setting s) (next_with s 0) s.features e × MayAllBeMade (made_at 0 s e) es
+
+-- an edit that is accepted may be made, and so may each of a batch; a validation is always accepted
 abbrev pub MayHappen : State → Event → Type 0
 MayHappen s (edits e) = MayBeMade (setting s) (next_of s) s.features e
+MayHappen s (batches es) = MayAllBeMade s es
 MayHappen s (validates extent) = ⊤
 
 -- each event might happen after those before it

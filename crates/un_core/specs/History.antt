@@ -10,7 +10,7 @@ use Rattle.un_defs.specs.Star.{empty_star, standing_points}
 use Rattle.un_defs.specs.Ground.{Ground}
 use Rattle.un_defs.specs.Stain.{stain}
 use Rattle.un_core.specs.State.{State, opening, fresh_star}
-use Rattle.un_core.specs.Step.{Event, edits, validates, step}
+use Rattle.un_core.specs.Step.{Event, edits, batches, validates, stain_of_batch, step}
 
 -- the state to which a history leads
 abbrev pub after_all : Catalog → List Event → State
@@ -20,11 +20,13 @@ after_all S (e ∷ before) = step (after_all S before) e
 -- the areas that an event makes, with their numbers
 abbrev pub made_by : State → Event → List (ℕ × Rectangle)
 made_by s (edits e) = enumerate_from s.next_area (stain s.features e)
+made_by s (batches es) = enumerate_from s.next_area (stain_of_batch s es)
 made_by s (validates extent) = []
 
 -- a validation clears each area that meets its extent
 abbrev pub clears : ℕ × Rectangle → Event → Bool
 clears area (edits e) = false
+clears area (batches es) = false
 clears area (validates extent) = meets area.1 extent
 
 -- of the areas that a history made, those that neither it nor the later events cleared
@@ -40,6 +42,7 @@ dirty_after S history = alive_under S [] history
 -- the event is a validation whose extent meets an area, alive just before it, that covers the point
 abbrev pub rebuilds : Catalog → List Event → Event → Point → Bool
 rebuilds S before (edits e) p = false
+rebuilds S before (batches es) p = false
 rebuilds S before (validates extent) p = list_any (λ area. meets area.1 extent && covers area.1 p) (dirty_after S before)
 
 -- the star of all features as they were at the last validation that rebuilt the point; the empty one where there was none

@@ -14,10 +14,10 @@ use Rattle.un_ask.specs.declared.reply.Reply.{Reply}
 use Rattle.un_ask.specs.declared.reply.Reply.TheVariants as reply
 use Rattle.un_trace.specs.Told.{told, mode_of}
 use Rattle.un_core.specs.Validation.{met}
-use Rattle.un_core.specs.Step.{Event, edits, validates}
+use Rattle.un_core.specs.Step.{Event, edits, batches, validates}
 use Rattle.un_core.specs.History.{after_all, dirty_after, history_ground, points_before}
 use Rattle.un_core.specs.Cover.{MayAllHappen}
-use Rattle.un_core.specs.Commands.{event_of, event_due, accepted, reply_to, command_reply}
+use Rattle.un_core.specs.Commands.{event_of, event_due, event_refused, accepted, reply_to, command_reply}
 use Rattle.un_core.specs.Clearing.{fresh_errors}
 use Rattle.un_core.specs.Walked.{reached}
 use Rattle.un_core.specs.Listed.{errors_in}
@@ -59,12 +59,13 @@ answer_after S history q =
 -- the reply to what is accepted: a validation tells of the dirty areas that it clears, and of the errors that there are under them
 abbrev pub accepted_after : Catalog → List Event → Event → Reply
 accepted_after S history (edits e) = accepted (after_all S history) (edits e)
+accepted_after S history (batches es) = accepted (after_all S history) (batches es)
 accepted_after S history (validates extent) = reply.Validated
     (length (met extent (dirty_after S history))) (fresh_errors (after_all S history) (met extent (dirty_after S history))) (length history + 1)
 
 abbrev pub event_reply_after : Catalog → List Event → Option Event → Reply
 event_reply_after S history None = reply_to (after_all S history) None
-event_reply_after S history (Some e) = option_map_or (refused (after_all S history)) (event_due (after_all S history) e) (accepted_after S history e)
+event_reply_after S history (Some e) = option_map_or (event_refused (after_all S history) e) (event_due (after_all S history) e) (accepted_after S history e)
 
 -- the reply to a command
 abbrev pub command_reply_after : Catalog → List Event → Command → Reply

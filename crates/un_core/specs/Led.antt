@@ -30,7 +30,7 @@ pub record IsLed (S : Catalog) (history : List Event) (s : State) : Type 0 where
 
 -- what a command asks for, and for which no refusal is due, might happen
 abbrev pub MayLaw : Type 0
-MayLaw = (s : State) (c : Command) (e : Event) → IsCatalog s.catalog → event_of c ≡ Some e → event_due s e ≡ None → MayHappen s e
+MayLaw = (s : State) (c : Command) (e : Event) → IsState s → IsCatalog s.catalog → event_of c ≡ Some e → event_due s e ≡ None → MayHappen s e
 
 -- and leaves the schema as it is
 abbrev pub SameSchemaLaw : Type 0

@@ -6,6 +6,7 @@ pub mod Cover
 pub mod Walked
 pub mod Listed
 pub mod Held
+pub mod RowEdits
 pub mod Refusals
 pub mod Feature
 pub mod Named

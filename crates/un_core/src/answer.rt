@@ -1,7 +1,8 @@
 //! What queries are answered.
-ghost use Rattle.std.specs.Prelude.{◌≡◌, None, IfOk};
+ghost use Rattle.std.specs.Prelude.{◌≡◌, ◌+◌, ◌*◌, ◌≤◌, length, None, IfOk, OnOk};
+ghost use Rattle.un_ask.specs.declared.query.Asked.TheVariants.{Trace};
 ghost use Rattle.un_trace.specs.Told.{MayTell};
-ghost use Rattle.un_core.specs.Answers.{untaken, untaken_member, query_due, refused, at_version, connected_from, traced_kept, traced, asked, answer};
+ghost use Rattle.un_core.specs.Answers.{untaken, untaken_member, query_due, refused, at_version, connected_from, traced_kept, traced, asked, answer, reached_kept, reached_by};
 
 use crate::kept::Kept;
 use crate::net::Net;
@@ -155,8 +156,10 @@ impl Net {
         ask: &TypedAsk,
         steps: &mut Steps<L>,
     ) -> Result<Reply, AllocError>
-        requires { MayTell ask.now.kind ask.now.barriers.tier }
-        ensures { IfOk result (λ reply. reply ≡ traced_kept self.now ask.now) }
+        requires kind { MayTell ask.now.kind ask.now.barriers.tier }
+        requires plain { ask.now.barriers.tier ≡ None }
+        ensures reply { IfOk result (λ reply. reply ≡ traced_kept self.now ask.now) }
+        ensures ticks { OnOk result (steps.new ≤ steps.old + 2 * length (reached_kept self.now ask.now)) }
     {
         let kept = self.kept();
         trace(alloc, &kept, ask, steps)
@@ -169,7 +172,8 @@ impl Net {
         ask: &TraceAsk,
         steps: &mut Steps<L>,
     ) -> Result<Reply, AllocError>
-        ensures { IfOk result (λ reply. reply ≡ traced self.now ask.now) }
+        ensures reply { IfOk result (λ reply. reply ≡ traced self.now ask.now) }
+        ensures ticks { OnOk result (steps.new ≤ steps.old + 2 * length (reached_by self.now (Trace ask.now))) }
     {
         let starts = match self.start_nodes(alloc, ask.starts.as_slice())? {
             Ok(starts) => starts,
@@ -187,8 +191,9 @@ impl Net {
         what: &Asked,
         steps: &mut Steps<L>,
     ) -> Result<Reply, AllocError>
-        requires { untaken what.now ≡ None }
-        ensures { IfOk result (λ reply. reply ≡ asked self.now what.now) }
+        requires taken { untaken what.now ≡ None }
+        ensures reply { IfOk result (λ reply. reply ≡ asked self.now what.now) }
+        ensures ticks { OnOk result (steps.new ≤ steps.old + 2 * length (reached_by self.now what.now)) }
     {
         let version = self.version;
         match what {
@@ -220,7 +225,9 @@ impl Net {
         query: &Query,
         steps: &mut Steps<L>,
     ) -> Result<Reply, AllocError>
-        ensures { IfOk result (λ reply. reply ≡ answer self.now query.now) }
+        ensures reply { IfOk result (λ reply. reply ≡ answer self.now query.now) }
+        // For each node that a trace reaches, one star is looked up for the walk and one for the answer.
+        ensures ticks { OnOk result (steps.new ≤ steps.old + 2 * length (reached_by self.now query.now.what)) }
     {
         match self.query_due(query) {
             Some(refusal) => Ok(self.refused(refusal)),

@@ -4,13 +4,13 @@ ghost use Rattle.un_core.specs.Led.{MayLaw, SameSchemaLaw, OpeningLaw, LedLaw, V
 ghost use Rattle.un_core.specs.Clearing.{ValidationLaw};
 ghost use Rattle.un_core.specs.HistoryAnswers.{ReplyLaw, AnswerLaw};
 
-/// What a command asks for, and for which no refusal is due, might happen.
+/// What a command asks of a state, and for which no refusal is due, might happen: a row that an edit makes or changes fits its kind, and
+/// nothing stands on a row that goes. In a batch this holds of each edit where the ones before it are made.
 pub fn accepted_commands_may_happen()
     ensures { MayLaw }
 {}
 
-/// No command changes the schema.
-#[tactic(auto, using(crate::proofs::Led::same_schema))]
+/// No edit of a row, no batch of them and no validation changes the schema.
 pub fn schema_stays()
     ensures { SameSchemaLaw }
 {}

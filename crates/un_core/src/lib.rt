@@ -3,9 +3,10 @@
 
 pub mod answer;
 pub mod apply;
+pub mod batch;
+mod edit;
 mod feature;
 pub mod histories;
-mod insert;
 mod kept;
 pub mod laws;
 mod live;
@@ -15,5 +16,6 @@ mod starts;
 pub mod validate;
 
 pub use apply::Applied;
+pub use batch::{BatchFault, Batched};
 pub use net::Net;
 pub use validate::Validated;

@@ -1,13 +1,17 @@
-use Rattle.std.proofs.Common.{subst}
+use Rattle.std.proofs.Common.{map, inl, sym, subst}
 use Rattle.std.proofs.lemmas.Result.{IfOk-weaker}
 use Rattle.un_defs.specs.Ground.{Ground}
+use Rattle.un_defs.specs.Reach.{IsReach, leads}
 use Rattle.un_index.specs.Kept.{stars_of}
-use Rattle.un_trace.specs.Told.{IsAnswer}
-use Rattle.un_core.proofs.Asked.{answer_kept}
+use Rattle.un_trace.specs.Told.{IsAnswer, mode_of}
+use Rattle.un_core.specs.State.{kept_ground}
+use Rattle.un_core.specs.Answers.{reached_kept}
+use Rattle.un_core.proofs.Asked.{answer_kept, kept_points}
+use Rattle.un_core.proofs.Grounds.{reached_reaches}
 use Rattle.un_core.proofs.net.Net.trace_kept.Goals as goal
 
-pub returns : goal.returns
-returns g c =
+pub returns-clause-reply : goal.returns-clause-reply
+returns-clause-reply g c =
     let s = c.args.self.now in
     let ask = c.args.ask.now in
     IfOk-weaker c.trace.result _ _
@@ -15,3 +19,13 @@ returns g c =
     (subst (λ (G : Ground). IsAnswer G ask reply)
     (λ i. record { stars = stars_of (c.kept-kept.ensures.stars i); areas = c.kept-kept.ensures.areas i }) is))
     c.trace.ensures.answer
+
+pub returns-clause-ticks : goal.returns-clause-ticks
+returns-clause-ticks g c =
+    let s = c.args.self.now in
+    let ask = c.args.ask.now in
+    c.trace.ensures.ticks (reached_kept s ask)
+    (subst (λ (G : Ground). IsReach (leads G ask.barriers (mode_of ask.kind)) ask.starts (reached_kept s ask))
+    (λ i. record { stars = stars_of (sym c.kept-kept.ensures.stars i); areas = sym c.kept-kept.ensures.areas i })
+    (reached_reaches (kept_ground s) (map (λ pair. pair.0) s.kept) (kept_points s.kept) ask.barriers (mode_of ask.kind) ask.starts))
+    (inl c.requires.plain)
