@@ -1,5 +1,5 @@
 -- Where the first line of a script is refused, its refusal is all that is due.
-use Rattle.std.proofs.Common.{◌≡◌, ◌⊎◌, inl, inr, ℕ, Bool, true, false, List, [], ◌∷◌, ◌++◌, Option, Some, None, Result, Ok, Err, refl, ap, sym, ◌∙◌, append-nil}
+use Rattle.std.proofs.Common.{◌≡◌, ◌⊎◌, inl, inr, ℕ, Bool, true, false, List, [], ◌∷◌, ◌++◌, Option, Some, None, refl, ap, sym, ◌∙◌, append-nil}
 use Rattle.std.specs.List.{slice_split}
 use Rattle.un_lines.specs.Cut.{is_line_end, lines_of}
 use Rattle.un_lines.specs.Rules.{Opening, Refused as Closed, kind_of}
@@ -10,7 +10,7 @@ use Rattle.un_schema.specs.declared.place.Place.TheVariants as place
 use Rattle.un_schema_json.specs.Lines.{schema_of}
 use Rattle.un_replies.specs.Replies.{print}
 use Rattle.un_core.specs.State.{State}
-use Rattle.un_script.specs.Script.{script, bad_schema, bad_place, opened_by, refusal_line, refused_place, place_of, IsRefusedAs, IsUnrefusedBy}
+use Rattle.un_script.specs.Script.{script, bad_schema, bad_place, refusal_line, refused_place, IsRefusedAs, IsUnrefusedBy}
 
 -- behind a refused first line nothing is due
 silent : (ended : Bool) (lines texts : List (List ℕ)) → due_from script ended Closed lines texts ≡ []

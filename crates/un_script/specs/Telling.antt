@@ -1,8 +1,9 @@
 -- No reply of the definitions tells of want of memory.
-use Rattle.std.proofs.Common.{◌≡◌, ◌≢◌, ℕ, ℤ, ◌+◌, ◌==◌, ◌&&◌, ◌||◌, nat_lt, nat_le, not, map, length, is_some, if◌then◌else◌, Bool, true, false, List, [], ◌∷◌, Option, None, Some, Result, Ok, Err, option_map, option_and_then, refl, subst}
+use Rattle.std.proofs.Common.{◌≡◌, ◌≢◌, ℕ, ℤ, ◌+◌, ◌==◌, ◌&&◌, ◌||◌, nat_lt, nat_le, not, map, length, is_some, if◌then◌else◌, Bool, true, false, List, [], ◌∷◌, Option, None, Some, Result, Ok, Err, option_map, option_and_then, refl}
 use Rattle.std.specs.Prelude.{⊤}
-use Rattle.std.specs.List.{list_all}
+use Rattle.std.specs.List.{list_all, list_any}
 use Rattle.std.specs.Option.{IfSome, option_map_or}
+use Rattle.un_geom.specs.Rectangle.{Rectangle}
 use Rattle.un_schema.specs.declared.kind.Class.{Class}
 use Rattle.un_schema.specs.declared.kind.Kind.{Kind}
 use Rattle.un_schema.specs.declared.place.Place.{Place}
@@ -18,13 +19,12 @@ use Rattle.un_defs.specs.declared.refusal.Refusal.{Refusal}
 use Rattle.un_defs.specs.declared.refusal.Refusal.TheVariants as refusal
 use Rattle.un_defs.specs.declared.refusal.Limit.TheVariants as limit
 use Rattle.un_defs.specs.Ground.{Ground}
-use Rattle.un_defs.specs.Features.{is_line, row}
+use Rattle.un_defs.specs.Features.{Features, is_line, row}
 use Rattle.un_defs.specs.Stain.{stain}
 use Rattle.un_defs.specs.Reach.{dirt}
 use Rattle.un_store.specs.Keyed.{row_with}
 use Rattle.un_store.specs.Refusals.{first_due, due_if, refusal_of, no_kind, of_kind, no_row, of_row, no_line, no_path, no_room, not_plain, is_both, is_device, same_class, other_class, bad_shape, bad_attribute, most_rows}
 use Rattle.un_ask.specs.declared.request.Command.{Command}
-use Rattle.un_ask.specs.declared.request.Command.TheVariants as command
 use Rattle.un_ask.specs.declared.request.Request.{Request}
 use Rattle.un_ask.specs.declared.request.Request.TheVariants as request
 use Rattle.un_ask.specs.declared.query.Query.{Query}
@@ -40,12 +40,13 @@ use Rattle.un_json.specs.Requests.{ask, asked_by, or_fault, request_of, json_of}
 use Rattle.serde_json.specs.Data.{Data}
 use Rattle.un_trace.specs.Told.{told, told_over, tells_controllers, controllers_reply, result_reply}
 use Rattle.un_core.specs.State.{State, kept_ground}
-use Rattle.un_core.specs.Refusals.{numbers_due, too_many, most_areas, last_number}
-use Rattle.un_core.specs.Step.{Event, edits, validates}
-use Rattle.un_core.specs.Commands.{event_of, event_due, reply_to, accepted, command_reply}
+use Rattle.un_core.specs.Refusals.{numbers_due, has_associations, has_controllers, standing_due, too_many, beside_numbers, first_refused, most_areas, last_number}
+use Rattle.un_core.specs.Step.{Event, edits, batches, validates, made_at}
+use Rattle.un_core.specs.Commands.{event_of, event_due, event_refused, reply_to, accepted, command_reply}
 use Rattle.un_core.specs.Answers.{answer, asked as asked_of, traced_kept, at_version, query_due, untaken, untaken_member, starts_due, start_due, start_node, start_nodes, connected_from, reached_kept, feature_reply, refused, is_connected, bad_if, too_early}
 use Rattle.un_core.specs.Feature.{feature_told}
 use Rattle.un_script.specs.Told.{IsTold}
+use Rattle.un_script.specs.EditReplies.{by_word}
 use Rattle.un_script.specs.Script.{reply_to as reply_to_asked}
 
 -- a refusal that may be due is none of want of memory
@@ -181,15 +182,44 @@ numbers_other s = due_where
     (nat_le last_number s.version || nat_le last_number s.next_feature || nat_le last_number s.next_association || nat_le last_number s.next_area)
     (refusal.Full limit.Numbers) (λ e. cc)
 
+associations_other : (F : Features) (id : ℕ) → IsOther (has_associations F id)
+associations_other F id = mapped_other _ _ (λ a e. cc)
+
+controllers_other : (F : Features) (id : ℕ) → IsOther (has_controllers F id)
+controllers_other F id = due_where (list_any (λ c. c.port.feature == id) F.controllers) refusal.HasControllers (λ e. cc)
+
+standing_other : (F : Features) (e : Edit) → IsOther (standing_due F e)
+unfolding AreOther
+standing_other F (edit.Kind id base kind) = controllers_other F id
+standing_other F (edit.Delete id base) = first_other (has_associations F id ∷ has_controllers F id ∷ [])
+    (associations_other F id, (controllers_other F id, tt))
+standing_other F _ = none_other
+
+areas_other : (areas : List (ℕ × Rectangle)) (rectangles : List Rectangle) → IsOther (too_many areas rectangles)
+areas_other areas [] = none_other
+areas_other areas (r ∷ rs) = due_where (nat_lt most_areas (length areas + length (r ∷ rs))) (refusal.Full limit.Areas) (λ e. cc)
+
+beside_are_other : (s : State) (e : Edit) → AreOther (beside_numbers s e)
+unfolding AreOther
+beside_are_other s e = (row_edit_other s.catalog s.features.rows e, (standing_other s.features e, (areas_other s.areas (stain s.features e), tt)))
+
+beside_other : (s : State) (e : Edit) → IsOther (first_due (beside_numbers s e))
+beside_other s e = first_other (beside_numbers s e) (beside_are_other s e)
+
+refused_other : (s : State) (place : ℕ) (es : List Edit) → IsOther (option_map (λ p. p.1) (first_refused s place es))
+refused_other s place [] = none_other
+refused_other s place (e ∷ es) = go (first_due (beside_numbers s e)) (beside_other s e) (refused_other (made_at 0 s e) (place + 1) es)
+  where
+    go : (d : Option Refusal) → IsOther d → IsOther (option_map (λ p. p.1) (first_refused (made_at 0 s e) (place + 1) es))
+        → IsOther (option_map (λ p. p.1) (option_map_or (λ r. Some (place, r)) d (first_refused (made_at 0 s e) (place + 1) es)))
+    go None due rest = rest
+    go (Some r) due rest = due
+
 event_other : (s : State) (e : Event) → IsOther (event_due s e)
 unfolding AreOther
-event_other s (edits e) = first_other (numbers_due s ∷ refusal_of s.catalog s.features.rows e ∷ too_many s.areas (stain s.features e) ∷ []) (
-  numbers_other s,
-  (
-    row_edit_other s.catalog s.features.rows e,
-    (due_where (nat_lt most_areas (length s.areas + length (stain s.features e))) (refusal.Full limit.Areas) (λ e. cc), tt),
-  ),
-)
+event_other s (edits e) = first_other (numbers_due s ∷ beside_numbers s e) (numbers_other s, beside_are_other s e)
+event_other s (batches es) = first_other (numbers_due s ∷ option_map (λ p. p.1) (first_refused s 0 es) ∷ [])
+    (numbers_other s, (refused_other s 0 es, tt))
 event_other s (validates extent) = numbers_other s
 
 -- a refusal where one is due, or else a reply
@@ -199,16 +229,22 @@ unfolding IsOther
 told_where None refuse other due refused told = told
 told_where (Some r) refuse other due refused told = refused r due
 
+refused_told : (s : State) (e : Event) (r : Refusal) → r ≢ refusal.Memory → IsTold (event_refused s e r)
+refused_told s (edits e) r other = other
+refused_told s (batches es) r other = other
+refused_told s (validates extent) r other = other
+
 command_told : (s : State) (c : Command) → IsTold (command_reply s c)
 command_told s c = go (event_of c)
   where
     at : (e : Event) → IsTold (accepted s e)
-    at (edits e) = tt
+    at (edits e) = by_word IsTold (λ areas id word version. tt) (λ areas rules version. tt) s e
+    at (batches es) = tt
     at (validates extent) = tt
 
     go : (o : Option Event) → IsTold (reply_to s o)
     go None = λ e. cc
-    go (Some e) = told_where (event_due s e) (refused s) (accepted s e) (event_other s e) (λ r other. other) (at e)
+    go (Some e) = told_where (event_due s e) (event_refused s e) (accepted s e) (event_other s e) (refused_told s e) (at e)
 
 -- ---- queries
 

@@ -1,6 +1,5 @@
 -- Replies that are not want of memory.
 use Rattle.std.specs.Prelude.{◌≢◌, ⊤}
-use Rattle.un_defs.specs.declared.refusal.Refusal.{Refusal}
 use Rattle.un_defs.specs.declared.refusal.Refusal.TheVariants.{Memory}
 use Rattle.un_ask.specs.declared.reply.Reply.{Reply}
 use Rattle.un_ask.specs.declared.reply.Reply.TheVariants.{Refused}

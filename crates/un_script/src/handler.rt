@@ -12,6 +12,7 @@ ghost use Rattle.un_replies.specs.Commands.{IsOfCommand, HasRefusalName, HasFewI
 ghost use Rattle.un_replies.specs.Replies.{print};
 ghost use Rattle.un_core.specs.Commands.{command_reply, state_after};
 ghost use Rattle.un_core.specs.Answers.{answer};
+ghost use Rattle.un_script.specs.Batches.{HasFewEdits};
 ghost use Rattle.un_script.specs.Script.{bad_schema, fault_reply, reply_to, state_behind};
 
 use std::alloc::{AllocError, Global};
@@ -122,6 +123,15 @@ fn names(reply: &Reply)
     }
 }
 
+// A batch has few edits, as each batch has.
+fn few_edits(command: &Command)
+    ensures { HasFewEdits command.now }
+{
+    if let Command::Batch(edits) = command {
+        let _edits = edits.as_slice();
+    }
+}
+
 // Does a command, or refuses it. Want of memory changes nothing.
 fn apply(
     alloc: Global,
@@ -135,6 +145,7 @@ fn apply(
     ensures err { OnErr result ((net.new ≡ net.old) × (out.new.items ≡ out.old.items)) }
     ensures capacity { vec_capacity out.old ≤ vec_capacity out.new }
 {
+    few_edits(command);
     match net.apply(alloc, command)? {
         Applied::Done { net: next, reply } => {
             print_line(&reply, out);

@@ -3,6 +3,8 @@ use std::alloc::{AllocError, Global};
 use std::test::Fail;
 use un_io::{MemSink, MemSource, Plan, Word};
 
+mod edits;
+
 // More room than any output here needs.
 const ROOM: usize = 65_536;
 
