@@ -15,11 +15,11 @@ ghost use Rattle.un_desk.specs.Desks.{IsDeskFault, IsMeetFault, IsSubmitted, cou
 ghost use Rattle.un_desk.specs.Views.{IsViewFault};
 
 use core::mem::ManuallyDrop;
-use std::alloc::Global;
+use std::alloc::{AllocError, Global};
 use std::sync::{Arc, Mutex, Wait};
 use un_journal::journal::Journal;
 use un_journal::receipt::{Ahead, Receipt};
-use un_machine::{Entry, Machine, Memory};
+use un_machine::{Entry, Machine};
 use un_publish::board::Board;
 use un_publish::prefix::NewLog;
 use un_publish::published::{BoardName, Published, Snapshot};
@@ -54,17 +54,17 @@ where
         new_log: NewLog<Entry<M>>,
         state: M,
         sessions: u32,
-    ) -> Result<(Desk<M, J>, Vec<Session<M, J>>), Memory>
+    ) -> Result<(Desk<M, J>, Vec<Session<M, J>>), AllocError>
         requires count { (0 < sessions) × (sessions ≤ 64) }
         requires book { new_log.seen.book ≡ J.book }
         requires opening { J.opening ≡ state ∷ [] }
         ensures { IfOk result (λ r. AreFresh sessions r.1.items) }
     {
         let Ok(state) = Arc::new(alloc, state) else {
-            return Err(Memory);
+            return Err(AllocError);
         };
         let Ok(other) = Arc::try_clone(&state) else {
-            return Err(Memory);
+            return Err(AllocError);
         };
         let (board, all) = Board::<M, J>::open(rt, alloc, new_log, other, sessions)?;
         match Journal::<M, J>::open(alloc, board, state) {
@@ -78,7 +78,7 @@ where
             }
             Err((_, board)) => {
                 board.close(rt);
-                Err(Memory)
+                Err(AllocError)
             }
         }
     }

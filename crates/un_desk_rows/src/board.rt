@@ -3,12 +3,12 @@ ghost use Rattle.std.specs.Prelude.{◌≡◌, ◌∷◌, [], length, OnOk};
 ghost use Rattle.un_machine.specs.Logs.{entries_of};
 
 use crate::counter::Counter;
-use std::alloc::Global;
+use std::alloc::{AllocError, Global};
 use std::marker::Brand;
 use std::process::Abort;
 use std::sync::{Arc, Wait};
 use std::test::*;
-use un_machine::{Entry, Memory};
+use un_machine::Entry;
 use un_publish::board::Board;
 use un_publish::prefix::{LogName, NewLog};
 use un_publish::published::BoardName;
@@ -55,13 +55,13 @@ fn publish_five<J: BoardName<Counter>, R: Wait>(
     rt: &R,
     alloc: Global,
     board: &mut Board<Counter, J>,
-) -> Result<(), Memory>
+) -> Result<(), AllocError>
     requires log { board.old.log ≡ [] }
     requires state { board.old.state ≡ record { total = 0 } }
     ensures { OnOk result (length (entries_of 0 board.new.log) ≡ 1) }
 {
     let Ok(next) = Arc::new(alloc, Counter { total: 5 }) else {
-        return Err(Memory);
+        return Err(AllocError);
     };
     board.stage(alloc, next)?;
     let entry = Entry {

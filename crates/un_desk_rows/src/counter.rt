@@ -1,6 +1,6 @@
 //! A machine for tests.
-use std::alloc::Global;
-use un_machine::{Applied, Entry, Machine, Memory};
+use std::alloc::{AllocError, Global};
+use un_machine::{Applied, Entry, Machine};
 
 /// A total, to which commands add. What would make it more than 100 is refused. A reply is the total.
 #[derive(Clone, Copy)]
@@ -32,7 +32,7 @@ impl Machine for Counter {
         cmd: &u64,
         _hint: Option<&()>,
         _since: &[Entry<Counter>],
-    ) -> Result<Applied<Counter>, Memory> {
+    ) -> Result<Applied<Counter>, AllocError> {
         let Some(total) = self.total.checked_add(*cmd) else {
             return Ok(Applied::Refused { reply: self.total });
         };
@@ -50,7 +50,7 @@ impl Machine for Counter {
         0
     }
 
-    fn copy_reply(_alloc: Global, reply: &u64) -> Result<u64, Memory> {
+    fn copy_reply(_alloc: Global, reply: &u64) -> Result<u64, AllocError> {
         Ok(*reply)
     }
 }

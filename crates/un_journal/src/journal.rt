@@ -26,10 +26,10 @@ ghost use Rattle.un_journal.specs.Books.{IsPrepared, entry};
 ghost use Rattle.un_journal.specs.Commits.{IsCommitDenial, IsCommitFault, IsReceipt};
 
 use crate::receipt::{Ahead, Receipt};
-use std::alloc::Global;
+use std::alloc::{AllocError, Global};
 use std::marker::Model;
 use std::sync::{Arc, Wait};
-use un_machine::{Applied, Entry, Machine, Memory};
+use un_machine::{Applied, Entry, Machine};
 use un_publish::board::Board;
 use un_publish::published::{BoardName, Published, Snapshot};
 use un_publish::session::{Denied, Session, SessionFault, View};
@@ -69,12 +69,12 @@ impl<M: Machine, J: BoardName<M>> Journal<M, J>
 where
     Published<M, J>: Snapshot<State = Published<M, J>>,
 {
-    /// The journal of a board that was just opened with this state. At `Memory` the board comes back as it was.
+    /// The journal of a board that was just opened with this state. At an error the board comes back as it was.
     pub fn open(
         alloc: Global,
         board: Board<M, J>,
         state: Arc<M>,
-    ) -> Result<Journal<M, J>, (Memory, Board<M, J>)>
+    ) -> Result<Journal<M, J>, (AllocError, Board<M, J>)>
         requires log { board.log ≡ [] }
         requires state { board.state ≡ arc_value state }
         ensures ok { IfOk result (λ j. j ≡ record { log = []; state = arc_value state }) }
@@ -83,7 +83,7 @@ where
         let version = board.version();
         prove!(version == 0);
         let Ok(books) = Vec::from_elem(alloc, 0u64, SESSIONS) else {
-            return Err((Memory, board));
+            return Err((AllocError, board));
         };
         Ok(Journal {
             board,
@@ -121,11 +121,11 @@ where
     }
 
     /// The state after the whole log.
-    pub fn view(&self) -> Result<View<M>, Memory>
+    pub fn view(&self) -> Result<View<M>, AllocError>
         ensures { IfOk result (λ v. (v.version ≡ length self.now.log) × (arc_value v.state ≡ self.now.state) × Reaches M.step J.opening self.now.log self.now.state) }
     {
         let Ok(state) = Arc::try_clone(&self.state) else {
-            return Err(Memory);
+            return Err(AllocError);
         };
         Ok(View {
             version: self.len(),
@@ -219,7 +219,7 @@ where
         alloc: Global,
         cmd: &M::Cmd,
         hint: Option<&M::Hint>,
-    ) -> Result<Applied<M>, Memory>
+    ) -> Result<Applied<M>, AllocError>
         requires { IfSome hint (λ h. IsPrepared M.step M.prepared M.place J.opening self.now.log h.now) }
         ensures { IfOk result (λ a. answer_of a ≡ M.step self.now.state cmd.now) }
     {
@@ -233,7 +233,7 @@ where
     }
 
     // What a refused commit answers, once the session has seen the log.
-    fn refuse(&self, reply: M::Reply) -> Result<Receipt<M>, Memory>
+    fn refuse(&self, reply: M::Reply) -> Result<Receipt<M>, AllocError>
         ensures { IfOk result (λ r. (r.version ≡ length self.now.log) × (r.accepted ≡ false) × (r.reply ≡ reply) × (r.view.version ≡ r.version) × (arc_value r.view.state ≡ self.now.state)) }
     {
         let view = self.view()?;
@@ -245,7 +245,7 @@ where
         })
     }
 
-    // Makes all growths, adds the entry and publishes. From then on nothing can be refused. At `Memory` nothing has changed.
+    // Makes all growths, adds the entry and publishes. From then on nothing can be refused. At an error nothing has changed.
     fn accept<R: Wait>(
         &mut self,
         rt: &R,
@@ -255,23 +255,23 @@ where
         next: M,
         reply: M::Reply,
         mark: M::Mark,
-    ) -> Result<Receipt<M>, Memory>
+    ) -> Result<Receipt<M>, AllocError>
         requires number { number < 64 }
         requires steps { M.step self.old.state cmd ≡ inl (next, (reply, mark)) }
         ensures ok { IfOk result (λ r. (self.new ≡ record { log = self.old.log ++ entry self.old.log number cmd reply mark ∷ []; state = next }) × (r.version ≡ length self.new.log) × (r.accepted ≡ true) × (r.reply ≡ reply) × (r.view.version ≡ r.version) × (arc_value r.view.state ≡ next)) }
         ensures memory { OnErr result (self.new ≡ self.old) }
     {
         let (Ok(copy), Ok(next)) = (M::copy_reply(alloc, &reply), Arc::new(alloc, next)) else {
-            return Err(Memory);
+            return Err(AllocError);
         };
         let (Ok(staged), Ok(state)) = (Arc::try_clone(&next), Arc::try_clone(&next)) else {
-            return Err(Memory);
+            return Err(AllocError);
         };
         if self.entries.reserve(1).is_err() || self.board.stage(alloc, staged).is_err() {
-            return Err(Memory);
+            return Err(AllocError);
         }
         let Some(n) = self.books[number as usize].checked_add(1) else {
-            return Err(Memory);
+            return Err(AllocError);
         };
         let entry = Entry {
             session: number,
@@ -281,7 +281,7 @@ where
             mark,
         };
         if self.board.publish(rt, &entry).is_err() {
-            return Err(Memory);
+            return Err(AllocError);
         }
         self.entries.push_reserved(entry);
         self.books[number as usize] = n;

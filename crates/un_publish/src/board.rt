@@ -22,10 +22,10 @@ use crate::publisher::{
     Publisher, informed_reader, informed_reader_at_last, publish_whole, publish_whole_in,
 };
 use crate::session::{Denied, Session, sessions_at};
-use std::alloc::Global;
+use std::alloc::{AllocError, Global};
 use std::marker::Model;
 use std::sync::{Arc, Wait};
-use un_machine::{Entry, Machine, Memory};
+use un_machine::{Entry, Machine};
 
 type BoardPublisher<M, J> = Publisher<Published<M, J>, Known<M>, BoardRule>;
 
@@ -64,7 +64,7 @@ fn writer_of<M: Machine, J: BoardName<M>, R: Wait>(
     alloc: Global,
     first: Published<M, J>,
     readers: usize,
-) -> Result<BoardPublisher<M, J>, Memory>
+) -> Result<BoardPublisher<M, J>, AllocError>
 where
     Published<M, J>: Snapshot<State = Published<M, J>>,
     requires readers { (0 < readers) × (readers < 2 ^ 32) }
@@ -72,10 +72,10 @@ where
     ensures { IfOk result (λ w. (w.desk.shown.value ≡ first) × ((view w.desk.place).seen ≡ first.1)) }
 {
     let (Ok(second), Ok(third)) = (first.again(), first.again()) else {
-        return Err(Memory);
+        return Err(AllocError);
     };
     let Ok(writer) = BoardPublisher::<M, J>::new(alloc, first, second, readers) else {
-        return Err(Memory);
+        return Err(AllocError);
     };
     // The writer's list grows here once for all, so that no later publishing has to grow it after the log has grown.
     let (writer, grown) = publish_whole::<Published<M, J>, Known<M>, BoardRule, Looks, R>(
@@ -83,7 +83,7 @@ where
     );
     if grown.is_err() {
         drop(writer.take(rt));
-        return Err(Memory);
+        return Err(AllocError);
     }
     Ok(writer)
 }
@@ -93,14 +93,14 @@ where
     Published<M, J>: Snapshot<State = Published<M, J>>,
 {
     /// A board whose log is empty, and so many sessions at it, which are numbered from 0 on. It waits for readers.
-    /// `Memory` also comes where there is no room for the readers' places, since nothing tells the two apart.
+    /// An error also comes where there is no room for the readers' places, since nothing tells the two apart.
     pub fn open<R: Wait>(
         rt: &R,
         alloc: Global,
         new_log: NewLog<Entry<M>>,
         state: Arc<M>,
         sessions: u32,
-    ) -> Result<(Board<M, J>, Vec<Session<M, J>>), Memory>
+    ) -> Result<(Board<M, J>, Vec<Session<M, J>>), AllocError>
         requires count { (0 < sessions) × (sessions ≤ 64) }
         requires book { new_log.seen.book ≡ J.book }
         requires opening { J.opening ≡ arc_value state ∷ [] }
@@ -122,7 +122,7 @@ where
             }
             Err(_) => {
                 drop(writer.take(rt));
-                Err(Memory)
+                Err(AllocError)
             }
         }
     }
@@ -136,7 +136,7 @@ where
     }
 
     /// Makes ready the state that is to be published next. One that was staged before is replaced.
-    pub fn stage(&mut self, _alloc: Global, next: Arc<M>) -> Result<(), Memory>
+    pub fn stage(&mut self, _alloc: Global, next: Arc<M>) -> Result<(), AllocError>
         ensures ok { OnOk result (self.new ≡ record self.old { staged = Some (arc_value next) }) }
         ensures memory { OnErr result (self.new ≡ self.old) }
     {
@@ -145,17 +145,17 @@ where
     }
 
     // A further reference to the staged state.
-    fn staged(&self) -> Result<Arc<M>, Memory>
+    fn staged(&self) -> Result<Arc<M>, AllocError>
         ensures { IfOk result (λ state. Some (arc_value state) ≡ self.now.staged) }
     {
         let Some(state) = &self.staged else {
-            return Err(Memory);
+            return Err(AllocError);
         };
-        Arc::try_clone(state).map_err(|_| Memory)
+        Arc::try_clone(state).map_err(|_| AllocError)
     }
 
     /// Adds the entry to the log and shows the staged state, to which it leads. It waits for readers.
-    pub fn publish<R: Wait>(&mut self, rt: &R, entry: &Entry<M>) -> Result<(), Memory>
+    pub fn publish<R: Wait>(&mut self, rt: &R, entry: &Entry<M>) -> Result<(), AllocError>
         requires number { entry.now.n ≡ length (entries_of entry.now.session self.old.log) + 1 }
         requires steps { (s : M) × (self.old.staged ≡ Some s) × (M.step self.old.state entry.now.cmd ≡ inl (s, (entry.now.reply, entry.now.mark))) }
         ensures log { OnOk result (self.new.log ≡ self.old.log ++ entry.now ∷ []) }
@@ -164,11 +164,11 @@ where
         ensures memory { OnErr result (self.new ≡ self.old) }
     {
         let Ok(state) = self.staged() else {
-            return Err(Memory);
+            return Err(AllocError);
         };
         let mut prefix = self.prefix.again();
         if !prefix.add(&self.length, entry) {
-            return Err(Memory);
+            return Err(AllocError);
         }
         let next = Published::new(state, prefix.again());
         publish_whole_in::<Published<M, J>, Known<M>, BoardRule, Looks, R>(

@@ -14,17 +14,17 @@ use core::mem::replace_with;
 use crossbeam_utils::rule::{Outcome, Protocol};
 use left_right::reader::Reader;
 use left_right::writer::Writer;
+use std::alloc::AllocError;
 use std::sync::Wait;
-use un_machine::Memory;
 
 pub(crate) type Publisher<T, V, P> = Writer<T, T, V, P>;
 
-// Readers find `next` from now on. At `Memory` they find what they found.
+// Readers find `next` from now on. At an error they find what they found.
 pub(crate) fn publish_whole<T: Snapshot, V, P: Protocol<T, V>, L: Outcome<T, V>, R: Wait>(
     writer: Publisher<T, V, P>,
     rt: &R,
     next: T,
-) -> (Publisher<T, V, P>, Result<(), Memory>)
+) -> (Publisher<T, V, P>, Result<(), AllocError>)
     requires { TurnsAt P.holds writer.desk.place.id (view writer.desk.place) writer.desk.shown.value next L.then }
     ensures { MatchResult result.1
         (λ _. (result.0.desk.shown.value ≡ next) × L.then (view writer.desk.place) writer.desk.shown.value next (view result.0.desk.place))
@@ -32,11 +32,11 @@ pub(crate) fn publish_whole<T: Snapshot, V, P: Protocol<T, V>, L: Outcome<T, V>,
 {
     let mut writer = writer;
     if writer.append(next).is_err() {
-        return (writer, Err(Memory));
+        return (writer, Err(AllocError));
     }
     match writer.publish_as::<L, R>(rt) {
         (writer, Ok(())) => (writer, Ok(())),
-        (writer, Err(_)) => (writer, Err(Memory)),
+        (writer, Err(_)) => (writer, Err(AllocError)),
     }
 }
 
@@ -45,7 +45,7 @@ pub(crate) fn publish_whole_in<T: Snapshot, V, P: Protocol<T, V>, L: Outcome<T, 
     writer: &mut Publisher<T, V, P>,
     rt: &R,
     next: T,
-) -> Result<(), Memory>
+) -> Result<(), AllocError>
     requires { TurnsAt P.holds writer.old.desk.place.id (view writer.old.desk.place) writer.old.desk.shown.value next L.then }
     ensures { MatchResult result
         (λ _. (writer.new.desk.shown.value ≡ next) × L.then (view writer.old.desk.place) writer.old.desk.shown.value next (view writer.new.desk.place))

@@ -19,10 +19,10 @@ use crate::prefix::Prefix;
 use crate::published::{BoardName, BoardRule, Known, Looks, Published};
 use core::mem::replace_with;
 use left_right::reader::{Factory, Reader};
-use std::alloc::Global;
+use std::alloc::{AllocError, Global};
 use std::marker::Model;
 use std::sync::Arc;
-use un_machine::{Entry, Machine, Memory};
+use un_machine::{Entry, Machine};
 
 /// A state of the machine, after so many entries of the log. It never changes, whatever is committed while it is held.
 #[derive(Drop)]
@@ -120,7 +120,7 @@ pub(crate) fn sessions_at<M: Machine, J: BoardName<M>>(
     readers: &ReaderFactory<M, J>,
     prefix: &Prefix<Entry<M>, J>,
     count: u32,
-) -> Result<Vec<Session<M, J>>, Memory>
+) -> Result<Vec<Session<M, J>>, AllocError>
     requires prefix { prefix.now ≡ [] }
     requires count { count ≤ 64 }
     ensures { IfOk result (λ v. AreFresh count v.items) }
@@ -128,10 +128,10 @@ pub(crate) fn sessions_at<M: Machine, J: BoardName<M>>(
     let mut all = Vec::new(alloc);
     for number in 0..count {
         let Ok(reader) = readers.reader() else {
-            return Err(Memory);
+            return Err(AllocError);
         };
         if all.reserve(1).is_err() {
-            return Err(Memory);
+            return Err(AllocError);
         }
         all.push_reserved(Session::fresh(reader, prefix.again(), number));
     }
@@ -170,7 +170,8 @@ impl<M: Machine, J: BoardName<M>> Session<M, J> {
 
     /// How many of the entries that it has seen are the session's own.
     pub fn own(&self) -> u64
-        ensures { result ≡ self.now.own }
+        ensures own { result ≡ self.now.own }
+        ensures within { result ≤ length (entries_of self.now.number self.now.seen) }
     {
         self.own
     }
