@@ -1,0 +1,14 @@
+mod Blanks
+mod Blocks
+mod Chained
+mod Ends
+mod Firsts
+mod Fits
+mod Given
+mod Headers
+mod Heads
+mod Names
+mod Numbers
+mod Once
+mod Reached
+mod Seeks

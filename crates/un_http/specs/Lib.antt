@@ -1,0 +1,12 @@
+pub mod Answers
+pub mod Block
+pub mod Filling
+pub mod Passed
+pub mod Head
+pub mod Kinds
+pub mod Requests
+pub mod Response
+pub mod Routes
+pub mod States
+pub mod Table
+pub mod Taking
