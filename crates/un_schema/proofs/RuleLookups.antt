@@ -1,8 +1,9 @@
 -- What a rule allows is a choice of a few rules.
-use Rattle.std.proofs.Common.{◌≡◌, ℕ, Bool, true, false, ◌==◌, ◌&&◌, ◌||◌, ◌∙◌, sym, List, [], ◌∷◌, ◌++◌, refl, arith}
+use Rattle.std.proofs.Common.{◌≡◌, ℕ, Bool, true, false, ◌==◌, ◌&&◌, ◌||◌, ◌∙◌, sym, List, [], ◌∷◌, ◌++◌, refl, arith, rules}
 use Rattle.std.specs.List.{list_any}
 use Rattle.std.proofs.lemmas.Cmp.{nat_eq_equiv}
 use Rattle.std.proofs.lemmas.List.Folds.{list_any-append}
+use Rattle.un_schema.specs.contracts.rule.RulePartialEq.TheImpl as equal
 use Rattle.un_schema.specs.declared.rule.Rule.{Rule}
 use Rattle.un_schema.specs.declared.rule.Rule.TheVariants.{JunctionEdge, JunctionJunction, Containment, Attachment, EdgeJunctionEdge}
 use Rattle.un_schema.specs.Rules.{names, is_edge, is_pair, is_through, is_content, is_attach, edge, pair, through, content, attach}
@@ -36,13 +37,22 @@ any_same : {A : Type 0} (r p : A → Bool) → ((x : A) → r x ≡ p x) → (xs
 any_same r p each [] = refl
 any_same r p each (x ∷ xs) = rw (each x, any_same r p each xs) refl
 
+-- the code's equality of rules
+alike : (r q : Rule) → equal.ghosts.eq r q ≡ same_rule r q
+alike r q = search rules
+
+-- a set of rules that the code's equality finds like a list, as the definitions see it
+pub set_alike : (keys list : List Rule) → ((q : Rule) → list_any (equal.ghosts.eq q) keys ≡ list_any (equal.ghosts.eq q) list) → (q : Rule) → list_any (same_rule q) keys ≡ list_any (same_rule q) list
+set_alike keys list found q =
+    sym (any_same (equal.ghosts.eq q) (same_rule q) (alike q) keys) ∙ found q ∙ any_same (equal.ghosts.eq q) (same_rule q) (alike q) list
+
 -- a test that is a choice of rules holds of a rule of the list where the list has one of them
 any_of_rules : (test : Rule → Bool) (choice : List Rule) → ((r : Rule) → test r ≡ list_any (λ q. same_rule q r) choice) → (rules : List Rule)
     → list_any test rules ≡ list_any (λ q. list_any (same_rule q) rules) choice
 any_of_rules test choice each rules =
     any_same test (λ r. list_any (λ q. same_rule q r) choice) each rules ∙ any_swap same_rule rules choice
 
-edge_bools : (j z t l : Bool) → ((j && (z || t)) && l) ≡ ((j && (z && l)) || ((j && (t && l)) || false))
+edge_bools : (j z t l : Bool) → ((j && (z || t)) && l) ≡ ((j && z && l) || ((j && t && l) || false))
 edge_bools false z t l = refl
 edge_bools true z t l = grind arith
 
@@ -61,7 +71,7 @@ edge_by_rules rules j t line = any_of_rules (is_edge j t line) (JunctionEdge j 0
 -- the tests of two kinds, and of two terminals each: 0 or the one that is met
 order_bools : (a z t b y u : Bool)
     → ((a && (z || t)) && (b && (y || u)))
-    ≡ ((a && (t && (b && u))) || ((a && (z && (b && u))) || ((a && (t && (b && y))) || ((a && (z && (b && y))) || false))))
+    ≡ ((a && t && b && u) || ((a && z && b && u) || ((a && t && b && y) || ((a && z && b && y) || false))))
 order_bools false z t b y u = refl
 order_bools true z t false y u = grind arith
 order_bools true z t true y u = grind arith
@@ -110,10 +120,12 @@ attach_by_rule rules base attached = any_same _ _ (is_attach_by_rule base attach
 
 and_bools : (j a z t b y u : Bool)
     → (j && ((a && (z || t)) && (b && (y || u))))
-    ≡ ((a && (t && (j && (b && u)))) || ((a && (z && (j && (b && u)))) || ((a && (t && (j && (b && y)))) || ((a && (z && (j && (b && y)))) || false))))
+    ≡ ((a && t && j && b && u) || ((a && z && j && b && u) || ((a && t && j && b && y) || ((a && z && j && b && y) || false))))
 and_bools false false z t b y u = refl
 and_bools false true z t b y u = grind arith
-and_bools true a z t b y u = order_bools a z t b y u
+and_bools true false z t b y u = refl
+and_bools true true z t false y u = grind arith
+and_bools true true z t true y u = grind arith
 
 and_or : (j a b : Bool) → (j && (a || b)) ≡ ((j && a) || (j && b))
 and_or true a b = refl

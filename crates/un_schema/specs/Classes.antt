@@ -3,6 +3,15 @@ use Rattle.std.specs.Prelude.{ℕ, Bool, true, false}
 use Rattle.un_schema.specs.declared.kind.Class.{Class}
 use Rattle.un_schema.specs.declared.kind.Class.TheVariants.{Device, Junction, Line, Assembly, Structure}
 
+-- two classes are one
+abbrev pub same_class : Class → Class → Bool
+same_class Device Device = true
+same_class Junction Junction = true
+same_class Line Line = true
+same_class Assembly Assembly = true
+same_class Structure Structure = true
+same_class class other = false
+
 abbrev pub is_device : Class → Bool
 is_device Device = true
 is_device Junction = false

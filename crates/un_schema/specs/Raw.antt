@@ -18,9 +18,8 @@ use Rattle.un_schema.specs.declared.raw.RawRule.{RawRule}
 use Rattle.un_schema.specs.declared.raw.RawRule.TheVariants as raw
 use Rattle.un_schema.specs.declared.rule.Rule.{Rule}
 use Rattle.un_schema.specs.declared.rule.Rule.TheVariants.{JunctionEdge, JunctionJunction, Containment, Attachment, EdgeJunctionEdge}
-use Rattle.un_schema.specs.contracts.kind.ClassPartialEq.TheImpl as class_eq
 use Rattle.un_schema.specs.Catalog.{Catalog, PathSet, kind_named}
-use Rattle.un_schema.specs.Classes.{is_device, is_line}
+use Rattle.un_schema.specs.Classes.{same_class, is_device, is_line}
 use Rattle.un_schema.specs.Fits.{fits}
 use Rattle.un_schema.specs.Lists.{are_distinct, are_named, items_of, has}
 
@@ -62,7 +61,7 @@ is_config_name configs name = (length name == 0) || is_some (config_number confi
 
 -- the same class, group and type
 abbrev pub is_same_type : RawKind → RawKind → Bool
-is_same_type a b = (class_eq.ghosts).eq a.class b.class && (a.group == b.group) && (a.asset_type == b.asset_type)
+is_same_type a b = same_class a.class b.class && (a.group == b.group) && (a.asset_type == b.asset_type)
 
 -- distinct names of the list
 abbrev pub are_of : List (List ℕ) → List (List ℕ) → Bool
