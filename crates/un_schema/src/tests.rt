@@ -168,7 +168,7 @@ fn rules_are_asked(rt: HostRuntime) -> Result<(), Fail> {
     assert!(rt; schema.allows_edge(0, 7, 1), "terminal 0 stands for each");
     assert!(rt; schema.allows_pair(0, 5, 3, 1) && !schema.allows_pair(0, 5, 3, 2));
     assert!(rt; schema.allows_content(4, 3) && schema.allows_attach(5, 1));
-    assert!(rt; schema.allows_through(3, 2, 9, 1, 1) && !schema.allows_through(3, 2, 9, 1, 2));
+    assert!(rt; schema.allows_through(3, 9, 2, 1, 1) && !schema.allows_through(3, 9, 2, 2, 1));
     Ok(())
 }
 

@@ -233,10 +233,10 @@ fn passes(schema: &Schema, joint: &Joint, end: &End, group: &Group) -> bool
     (end.port != group.first || group.several)
         && schema.allows_through(
             joint.kind,
-            end.kind,
             chosen(end, joint),
-            group.kind,
+            end.kind,
             group.terminal,
+            group.kind,
         )
 }
 
