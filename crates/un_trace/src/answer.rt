@@ -86,6 +86,7 @@ fn result_of<G: Ground, L>(
     ensures told { IfOk result (λ r. r ≡ result_of (G.stars_and_areas over.now) ask.now
         (told_nodes (G.stars_and_areas over.now) ask.now reached.now)) }
     ensures ticks { OnOk result (steps.new ≡ steps.old + length reached.now) }
+    ensures never_falls { steps.old ≤ steps.new }
 {
     let nodes = seen_nodes(
         alloc,
@@ -134,6 +135,7 @@ fn controllers_reply<G: Ground, L>(
     requires { IsSome ask.now.barriers.tier }
     ensures told { IfOk result (λ r. r ≡ controllers_reply (G.stars_and_areas over.now) ask.now reached.now) }
     ensures ticks { OnOk result (steps.new ≡ steps.old + length reached.now) }
+    ensures never_falls { steps.old ≤ steps.new }
 {
     let Some(tier) = ask.barriers.tier else {
         unreachable!()
@@ -155,6 +157,7 @@ fn result_reply<G: Ground, L>(
     requires { IsStrictlySortedBy node_cmp reached.now }
     ensures told { IfOk result (λ r. r ≡ result_reply (G.stars_and_areas over.now) ask.now reached.now) }
     ensures ticks { OnOk result (steps.new ≡ steps.old + length reached.now) }
+    ensures never_falls { steps.old ≤ steps.new }
 {
     let result = result_of(alloc, over, ask, reached, steps)?;
     Ok(Reply::Traced { result, version: 0 })
@@ -172,6 +175,7 @@ fn told_clean<G: Ground, L>(
     requires sorted { IsStrictlySortedBy node_cmp reached.now }
     ensures told { IfOk result (λ r. r ≡ told_clean (G.stars_and_areas over.now) ask.now reached.now) }
     ensures ticks { OnOk result (steps.new ≡ steps.old + length reached.now) }
+    ensures never_falls { steps.old ≤ steps.new }
 {
     if tells_controllers(ask.kind) {
         controllers_reply(alloc, over, ask, reached, steps)
@@ -200,6 +204,7 @@ pub fn trace<G: Ground, L>(
         → IsReach (leads (G.stars_and_areas over.now) ask.now.barriers (mode_of ask.now.kind)) ask.now.starts reached
         → IsLookedUpOnce (G.stars_and_areas over.now) ask.now.barriers
         → OnOk result (steps.new ≤ steps.old + 2 * length reached) }
+    ensures never_falls { steps.old ≤ steps.new }
 {
     let mode = mode_of(ask.kind);
     let reached = reach(

@@ -1,6 +1,6 @@
 //! The nodes of a result with their entries.
 
-ghost use Rattle.std.specs.Prelude.{◌≡◌, ◌+◌, length, map, IfOk, OnOk};
+ghost use Rattle.std.specs.Prelude.{◌≡◌, ◌≤◌, ◌+◌, length, map, IfOk, OnOk};
 ghost use Rattle.un_defs.specs.Ground.{entry};
 ghost use Rattle.un_defs.specs.Result.{result_nodes};
 ghost use Rattle.un_trace.specs.Seen.{nodes_of, spot_of};
@@ -32,6 +32,7 @@ pub(crate) fn seen_nodes<'a, G: Ground, L>(
     ensures entries { IfOk result (λ seen. map spot_of seen.items
         ≡ map (entry (G.stars_and_areas over.now)) (nodes_of seen.items)) }
     ensures ticks { OnOk result (steps.new ≡ steps.old + length reached.now) }
+    ensures never_falls { steps.old ≤ steps.new }
 {
     let mut seen = Vec::new(alloc);
     for node in reached {

@@ -55,6 +55,7 @@ fn visit<G: Ground, L>(
         (Grows found.old found.new (leads (G.stars_and_areas over.now) barriers.now mode node)) }
     ensures once { IsLookedUpOnce (G.stars_and_areas over.now) barriers.now
         → OnOk result (steps.new ≤ steps.old + 1) }
+    ensures never_falls { steps.old ≤ steps.new }
 {
     if is_shut_by_dirt(barriers, dirty_here) {
         return Ok(());
@@ -102,6 +103,7 @@ pub fn reach<G: Ground, L>(
     // No more stars are looked up than nodes are reached.
     ensures ticks { IsLookedUpOnce (G.stars_and_areas over.now) barriers.now
         → IfOk result (λ r. steps.new ≤ steps.old + length r.nodes) }
+    ensures never_falls { steps.old ≤ steps.new }
 {
     let mut found = found_starts(alloc, starts)?;
     let mut least = None;

@@ -1,6 +1,6 @@
 //! The links by which a walk goes on from a node.
 
-ghost use Rattle.std.specs.Prelude.{◌≡◌, ◌&&◌, ◌⊎◌, not, Some, None, IsTrue, OnOk};
+ghost use Rattle.std.specs.Prelude.{◌≡◌, ◌≤◌, ◌&&◌, ◌⊎◌, not, Some, None, IsTrue, OnOk};
 ghost use Rattle.std.specs.List.{list_any};
 ghost use Rattle.un_geom.specs.Places.{same_point};
 ghost use Rattle.un_defs.specs.Ground.{entry, ties};
@@ -56,6 +56,7 @@ fn is_far_end_controlled<G: Ground, L>(
     requires { place.now.star.now ≡ (G.stars_and_areas over.now).stars place.now.node.at }
     ensures controlled { result ≡ controls (G.stars_and_areas over.now) tier to }
     ensures here { to.at ≡ place.now.node.at → steps.new ≡ steps.old }
+    ensures never_falls { steps.old ≤ steps.new }
 {
     if is_same_point(to.at, place.node.at) {
         return is_controlled(place.star, to.port, tier);
@@ -78,6 +79,7 @@ fn is_shut<G: Ground, L>(
     requires { place.now.star.now ≡ (G.stars_and_areas over.now).stars place.now.node.at }
     ensures shut { result ≡ is_shut (G.stars_and_areas over.now) barriers.now place.now.node tie.now }
     ensures once { TieStays barriers.now place.now.node tie.now → steps.new ≡ steps.old }
+    ensures never_falls { steps.old ≤ steps.new }
 {
     match barriers.tier {
         Some(tier) if is_path(tie.name) => {
@@ -101,6 +103,7 @@ fn goes_by<G: Ground, L>(
     ensures goes { result ≡ (mode_takes mode tie.now
         && not (is_shut (G.stars_and_areas over.now) barriers.now place.now.node tie.now)) }
     ensures once { TieStays barriers.now place.now.node tie.now → steps.new ≡ steps.old }
+    ensures never_falls { steps.old ≤ steps.new }
 {
     mode_takes(mode, tie) && !is_shut(over, place, tie, barriers, steps)
 }
@@ -121,6 +124,7 @@ pub(crate) fn follow<G: Ground, L>(
         (ties (G.stars_and_areas over.now) place.now.node))) }
     ensures once { TiesStay (G.stars_and_areas over.now) barriers.now place.now.node
         → OnOk result (steps.new ≡ steps.old) }
+    ensures never_falls { steps.old ≤ steps.new }
 {
     for tie in place.spot.ties.as_slice() {
         if goes_by(over, place, tie, mode, barriers, steps) {

@@ -13,6 +13,7 @@ loop-next-init g c = record {
   within = omega arith;
   walked = walked_start _ _ c.in_ok-found.found c.in_ok-found.ensures;
   dirt = dirt_none (g.G.Ground.stars_and_areas c.args.over.now);
+  rises = omega arith;
   counted = λ _. omega arith;
 }
 
@@ -38,6 +39,7 @@ loop-next-preserved g c =
       within = omega (arith, ap length grown.is, length-append c.loop-next.found grown.more, c.loop-next-test.true, c.len.ensures);
       walked = rw (add-one k) walked;
       dirt = rw (add-one k) dirt;
+      rises = omega (arith, c.loop-next.invariant.rises, c.visit.ensures.never_falls);
       counted = λ once. omega (arith, c.loop-next.invariant.counted once, c.in_ok-visit.ensures.once once);
     }
 

@@ -1,4 +1,4 @@
-use Rattle.std.proofs.Common.{◌≡◌, ℕ, ◌+◌, pos, ◌||◌, not, Bool, true, false, List, [], take, take_all, get_or, add-one, Contains, refl, sym, ap, subst, ◌∙◌}
+use Rattle.std.proofs.Common.{◌≡◌, ◌≤◌, ℕ, ◌+◌, pos, ◌||◌, not, Bool, true, false, List, [], take, take_all, get_or, add-one, Contains, refl, sym, ap, subst, ◌∙◌, arith}
 use Rattle.std.specs.List.{list_any}
 use Rattle.std.specs.Option.{option_map_or}
 use Rattle.un_defs.specs.declared.port.Node.{Node}
@@ -37,6 +37,7 @@ loop-tie-preserved g c =
     λ m. any_more (goes_by G B mode n m) items k (k + 1) no_tie (add-one k) c.loop-tie-test.true in
     let counted : TiesStay G B n → c.goes_by.new.steps ≡ c.args.steps.now = λ stay.
     c.goes_by.ensures.once (stay tie (subst (λ l. Contains l tie) (sym of_node) (contains_at items k no_tie c.loop-tie-test.true))) ∙ c.loop-tie.invariant.counted stay in
+    let rises : c.args.steps.now ≤ c.goes_by.new.steps = omega (arith, c.goes_by.ensures.never_falls, c.loop-tie.invariant.rises) in
     elim c.if-goes_by.branch [
       | then-goes_by+in_ok-add w ↦ record {
         items = c.loop-tie.invariant.items;
@@ -44,6 +45,7 @@ loop-tie-preserved g c =
             (grows_with c.args.found.now c.loop-tie.found (so_far k) (so_far (k + 1)) tie.to
             (λ m. more m ∙ ap (λ b. so_far k m || b) (goes_when (same_node tie.to m) (mode_takes mode tie) (not (is_shut G B n tie)) (sym c.goes_by.ensures.goes ∙ w.if-goes_by.true)))
             c.loop-tie.invariant.grown);
+        rises = rises;
         counted = counted;
       }
       | else-goes_by w ↦ record {
@@ -52,6 +54,7 @@ loop-tie-preserved g c =
             (grows_same c.args.found.now c.loop-tie.found (so_far k) (so_far (k + 1))
             (λ m. more m ∙ ap (λ b. so_far k m || b) (goes_not (same_node tie.to m) (mode_takes mode tie) (not (is_shut G B n tie)) (sym c.goes_by.ensures.goes ∙ w.if-goes_by.false)) ∙ or_false (so_far k m))
             c.loop-tie.invariant.grown);
+        rises = rises;
         counted = counted;
       }
     ]
