@@ -10,6 +10,7 @@ ghost use Rattle.un_pages.specs.Pairs.{pair_held, IsOrdered};
 ghost use Rattle.un_points.specs.PointMaps.{value_at, covered, covered_past};
 
 use crate::strip::{is_beyond, start};
+use crate::walk::Under;
 use std::alloc::{AllocError, Global};
 use std::marker::Model;
 use std::sync::Arc;
@@ -129,15 +130,20 @@ impl<V: Drop> PointMap<V> {
         None
     }
 
-    /// The points that the rectangle covers, rising.
+    /// The pairs whose points the rectangle covers, sorted by x, then y, then z.
+    pub fn under(&self, extent: &Rect) -> Under<'_, V>
+        ensures { result ≡ covered extent.now self.now }
+    {
+        Under::new(&self.pairs, extent)
+    }
+
+    /// The points that the rectangle covers, sorted by x, then y, then z.
     pub fn points(&self, alloc: Global, extent: &Rect) -> Result<Vec<Point>, AllocError>
         ensures { IfOk result (λ points. points.items ≡ map (λ e. e.0) (covered extent.now self.now)) }
     {
         let mut points = Vec::new(alloc);
-        let mut after = None;
-        while let Some((point, _)) = self.next_under(extent, after) {
+        for (point, _) in self.under(extent) {
             points.push(point)?;
-            after = Some(point);
         }
         Ok(points)
     }

@@ -29,6 +29,58 @@ pub(crate) fn is_beyond(extent: &Rect, point: Point) -> bool
     is_below(right(extent), point.x)
 }
 
+// The point after which a walk that is at a point may go on. Where the point is below or above the rectangle, it is a later one of the
+// same column, and the rectangle covers no point between the two. Otherwise it is the point itself.
+pub(crate) fn skip(extent: &Rect, point: Point) -> Point
+    ensures same { (q : Point) → covers extent.now q ≡ true → is_past point_cmp (Some point) q ≡ is_past point_cmp (Some result) q }
+    ensures later { (q : Point) → is_past point_cmp (Some result) q ≡ true → is_past point_cmp (Some point) q ≡ true }
+{
+    let below = below_bottom(extent);
+    let top = top(extent);
+    if is_below(point.y, below) {
+        return moved(point, below);
+    }
+    if is_below(top, point.y) && is_below(point.y, i32::MAX) {
+        return moved(point, i32::MAX);
+    }
+    point
+}
+
+// The point with the same x and z and with this y.
+fn moved(point: Point, y: i32) -> Point
+    ensures column { result.x ≡ point.x }
+    ensures y { result.y ≡ y }
+{
+    Point {
+        x: point.x,
+        y,
+        z: point.z,
+    }
+}
+
+// A point before all points that the rectangle covers.
+pub(crate) fn before(extent: &Rect) -> Point
+    ensures { (q : Point) → covers extent.now q ≡ true → is_past point_cmp (Some result) q ≡ true }
+{
+    left_of(left(extent))
+}
+
+// The greatest y below the rectangle.
+fn below_bottom(extent: &Rect) -> i32
+    ensures side { result <ℤ extent.now.y0 }
+    ensures low { neg_ℤ (pos 1_000_000_001) ≤ℤ result }
+{
+    let [_, y0, _, _] = extent.sides();
+    y0 - 1
+}
+
+fn top(extent: &Rect) -> i32
+    ensures { result ≡ extent.now.y1 }
+{
+    let [_, _, _, y1] = extent.sides();
+    y1
+}
+
 fn left(extent: &Rect) -> i32
     ensures side { result ≡ extent.now.x0 }
     ensures low { neg_ℤ (pos 1_000_000_000) ≤ℤ result }
