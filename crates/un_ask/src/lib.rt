@@ -6,6 +6,7 @@
 #![tactic(auto)]
 
 pub mod areas;
+mod copy;
 pub mod edits;
 pub mod query;
 pub mod reply;

@@ -1,0 +1,249 @@
+//! Copies of replies.
+//!
+//! A reply is copied part by part: numbers and words as they are, each list and each name into memory of its own. So
+//! the copy and its source share nothing, and either may be dropped before the other. It takes time and memory in
+//! proportion to what the reply holds.
+ghost use Rattle.std.specs.Prelude.{◌≡◌, IfOk};
+ghost use Rattle.un_ask.specs.Groups.{IsPlainReply, IsCommandReply, IsQueryReply, IsTraceReply};
+
+use crate::reply::{FeatureReply, Reply, ResultReply};
+use crate::stored::StoredSubnet;
+use std::alloc::{AllocError, Global};
+use un_schema::Name;
+
+mod lists;
+mod refusal;
+
+use lists::{
+    copy_areas, copy_attrs, copy_controllers, copy_errors, copy_ids, copy_parts, copy_points,
+    copy_ports, copy_segments, copy_totals,
+};
+use refusal::copy_refusal;
+
+impl Reply {
+    /// An equal reply of its own. Want of memory is the one error.
+    pub fn copy(&self, alloc: Global) -> Result<Reply, AllocError>
+        ensures { IfOk result (λ copy. copy ≡ self.now) }
+    {
+        match self {
+            Reply::Edited { .. }
+            | Reply::Ruled { .. }
+            | Reply::Validated { .. }
+            | Reply::Version { .. } => Ok(copy_plain(self)),
+            Reply::Batch { .. } | Reply::Updated { .. } | Reply::Refused { .. } => {
+                copy_command_reply(alloc, self)
+            }
+            Reply::Feature { .. }
+            | Reply::Dirty { .. }
+            | Reply::Errors { .. }
+            | Reply::Subnet { .. } => copy_query_reply(alloc, self),
+            Reply::Traced { .. }
+            | Reply::Controllers { .. }
+            | Reply::Loops { .. }
+            | Reply::Isolation { .. } => copy_trace_reply(alloc, self),
+        }
+    }
+}
+
+/// A reply that holds numbers and words alone. It takes no memory.
+fn copy_plain(reply: &Reply) -> Reply
+    requires { IsPlainReply reply.now }
+    ensures { result ≡ reply.now }
+{
+    match reply {
+        Reply::Edited {
+            areas,
+            id,
+            word,
+            version,
+        } => Reply::Edited {
+            areas: *areas,
+            id: *id,
+            word: *word,
+            version: *version,
+        },
+        Reply::Ruled {
+            areas,
+            rules,
+            version,
+        } => Reply::Ruled {
+            areas: *areas,
+            rules: *rules,
+            version: *version,
+        },
+        Reply::Validated {
+            cleared,
+            errors,
+            version,
+        } => Reply::Validated {
+            cleared: *cleared,
+            errors: *errors,
+            version: *version,
+        },
+        Reply::Version { version } => Reply::Version { version: *version },
+        _ => unreachable!(),
+    }
+}
+
+/// A reply of a command that holds more than numbers and words.
+fn copy_command_reply(alloc: Global, reply: &Reply) -> Result<Reply, AllocError>
+    requires { IsCommandReply reply.now }
+    ensures { IfOk result (λ copy. copy ≡ reply.now) }
+{
+    match reply {
+        Reply::Batch {
+            areas,
+            ids,
+            version,
+        } => Ok(Reply::Batch {
+            areas: *areas,
+            ids: copy_ids(alloc, ids)?,
+            version: *version,
+        }),
+        Reply::Updated { row, version } => Ok(Reply::Updated {
+            row: copy_row(alloc, row)?,
+            version: *version,
+        }),
+        Reply::Refused {
+            refusal,
+            edit,
+            version,
+        } => Ok(Reply::Refused {
+            refusal: copy_refusal(alloc, refusal)?,
+            edit: *edit,
+            version: *version,
+        }),
+        _ => unreachable!(),
+    }
+}
+
+/// A reply of a query.
+fn copy_query_reply(alloc: Global, reply: &Reply) -> Result<Reply, AllocError>
+    requires { IsQueryReply reply.now }
+    ensures { IfOk result (λ copy. copy ≡ reply.now) }
+{
+    match reply {
+        Reply::Feature { feature, version } => Ok(Reply::Feature {
+            feature: copy_feature(alloc, feature)?,
+            version: *version,
+        }),
+        Reply::Dirty { areas, version } => Ok(Reply::Dirty {
+            areas: copy_areas(alloc, areas)?,
+            version: *version,
+        }),
+        Reply::Errors { errors, version } => Ok(Reply::Errors {
+            errors: copy_errors(alloc, errors)?,
+            version: *version,
+        }),
+        Reply::Subnet {
+            controllers,
+            members,
+            status,
+            subnet,
+            tier,
+            updated,
+            version,
+        } => Ok(Reply::Subnet {
+            controllers: copy_ports(alloc, controllers)?,
+            members: copy_ids(alloc, members)?,
+            status: *status,
+            subnet: subnet.copy(alloc)?,
+            tier: tier.copy(alloc)?,
+            updated: *updated,
+            version: *version,
+        }),
+        _ => unreachable!(),
+    }
+}
+
+/// A reply of a trace.
+fn copy_trace_reply(alloc: Global, reply: &Reply) -> Result<Reply, AllocError>
+    requires { IsTraceReply reply.now }
+    ensures { IfOk result (λ copy. copy ≡ reply.now) }
+{
+    match reply {
+        Reply::Traced {
+            result: traced,
+            version,
+        } => Ok(Reply::Traced {
+            result: copy_result(alloc, traced)?,
+            version: *version,
+        }),
+        Reply::Controllers {
+            controllers,
+            version,
+        } => Ok(Reply::Controllers {
+            controllers: copy_controllers(alloc, controllers)?,
+            version: *version,
+        }),
+        Reply::Loops { segments, version } => Ok(Reply::Loops {
+            segments: copy_segments(alloc, segments)?,
+            version: *version,
+        }),
+        Reply::Isolation {
+            borders,
+            features,
+            version,
+        } => Ok(Reply::Isolation {
+            borders: copy_ports(alloc, borders)?,
+            features: copy_parts(alloc, features)?,
+            version: *version,
+        }),
+        _ => unreachable!(),
+    }
+}
+
+fn copy_row(alloc: Global, row: &Option<StoredSubnet>) -> Result<Option<StoredSubnet>, AllocError>
+    ensures { IfOk result (λ copy. copy ≡ row.now) }
+{
+    match row {
+        Some(row) => Ok(Some(StoredSubnet {
+            tier: row.tier,
+            subnet: row.subnet.copy(alloc)?,
+            controllers: copy_ports(alloc, &row.controllers)?,
+            members: copy_ids(alloc, &row.members)?,
+            points: copy_points(alloc, &row.points)?,
+            updated: row.updated,
+            status: row.status,
+        })),
+        None => Ok(None),
+    }
+}
+
+fn copy_feature(alloc: Global, feature: &FeatureReply) -> Result<FeatureReply, AllocError>
+    ensures { IfOk result (λ copy. copy ≡ feature.now) }
+{
+    Ok(FeatureReply {
+        attrs: copy_attrs(alloc, &feature.attrs)?,
+        base: feature.base,
+        ends: feature.ends,
+        flow: feature.flow,
+        id: feature.id,
+        kind: feature.kind.copy(alloc)?,
+        note: feature.note.copy(alloc)?,
+        path: copy_path(alloc, &feature.path)?,
+        points: copy_points(alloc, &feature.points)?,
+    })
+}
+
+fn copy_path(alloc: Global, path: &Option<Name>) -> Result<Option<Name>, AllocError>
+    ensures { IfOk result (λ copy. copy ≡ path.now) }
+{
+    match path {
+        Some(path) => Ok(Some(path.copy(alloc)?)),
+        None => Ok(None),
+    }
+}
+
+fn copy_result(alloc: Global, traced: &ResultReply) -> Result<ResultReply, AllocError>
+    ensures { IfOk result (λ copy. copy ≡ traced.now) }
+{
+    Ok(ResultReply {
+        containers: copy_ids(alloc, &traced.containers)?,
+        content: copy_ids(alloc, &traced.content)?,
+        features: copy_parts(alloc, &traced.features)?,
+        functions: copy_totals(alloc, &traced.functions)?,
+        kind: traced.kind,
+        structures: copy_ids(alloc, &traced.structures)?,
+    })
+}

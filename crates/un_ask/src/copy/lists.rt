@@ -1,0 +1,115 @@
+//! Copies of the lists that replies hold.
+ghost use Rattle.std.specs.Prelude.{◌≡◌, IfOk};
+
+use crate::areas::{Areas, PlacedErrors, Points};
+use crate::results::{Controllers, Numbers, Part, Parts, Segments, Totals};
+use std::alloc::{AllocError, Global};
+use un_defs::port::Ports;
+use un_defs::{Controller, Ids, NamedAttrs};
+use un_schema::Name;
+
+/// An element that owns memory.
+pub(super) trait Element: Sized + Drop {
+    /// An equal element of its own.
+    fn copy(&self, alloc: Global) -> Result<Self, AllocError>
+        ensures { IfOk result (λ copy. copy ≡ self.now) };
+}
+
+impl Element for (Name, i64) {
+    fn copy(&self, alloc: Global) -> Result<(Name, i64), AllocError> {
+        Ok((self.0.copy(alloc)?, self.1))
+    }
+}
+
+impl Element for Controller {
+    fn copy(&self, alloc: Global) -> Result<Controller, AllocError> {
+        Ok(Controller {
+            port: self.port,
+            tier: self.tier,
+            subnet: self.subnet.copy(alloc)?,
+        })
+    }
+}
+
+impl Element for Part {
+    fn copy(&self, alloc: Global) -> Result<Part, AllocError> {
+        Ok(Part {
+            feature: self.feature,
+            numbers: Numbers::new(self.numbers.as_slice().to_vec(alloc)?),
+        })
+    }
+}
+
+fn copy_each<T: Element>(alloc: Global, items: &[T]) -> Result<Vec<T>, AllocError>
+    ensures { IfOk result (λ copies. copies.items ≡ items.now) }
+{
+    let mut copies = Vec::with_capacity(alloc, items.len())?;
+    for item in items {
+        copies.push(item.copy(alloc)?)?;
+    }
+    Ok(copies)
+}
+
+pub(super) fn copy_ids(alloc: Global, ids: &Ids) -> Result<Ids, AllocError>
+    ensures { IfOk result (λ copy. copy ≡ ids.now) }
+{
+    Ok(Ids::new(ids.as_slice().to_vec(alloc)?))
+}
+
+pub(super) fn copy_ports(alloc: Global, ports: &Ports) -> Result<Ports, AllocError>
+    ensures { IfOk result (λ copy. copy ≡ ports.now) }
+{
+    Ok(Ports::new(ports.as_slice().to_vec(alloc)?))
+}
+
+pub(super) fn copy_areas(alloc: Global, areas: &Areas) -> Result<Areas, AllocError>
+    ensures { IfOk result (λ copy. copy ≡ areas.now) }
+{
+    Ok(Areas::new(areas.as_slice().to_vec(alloc)?))
+}
+
+pub(super) fn copy_errors(alloc: Global, errors: &PlacedErrors) -> Result<PlacedErrors, AllocError>
+    ensures { IfOk result (λ copy. copy ≡ errors.now) }
+{
+    Ok(PlacedErrors::new(errors.as_slice().to_vec(alloc)?))
+}
+
+pub(super) fn copy_points(alloc: Global, points: &Points) -> Result<Points, AllocError>
+    ensures { IfOk result (λ copy. copy ≡ points.now) }
+{
+    Ok(Points::new(points.as_slice().to_vec(alloc)?))
+}
+
+pub(super) fn copy_segments(alloc: Global, segments: &Segments) -> Result<Segments, AllocError>
+    ensures { IfOk result (λ copy. copy ≡ segments.now) }
+{
+    Ok(Segments::new(segments.as_slice().to_vec(alloc)?))
+}
+
+pub(super) fn copy_totals(alloc: Global, totals: &Totals) -> Result<Totals, AllocError>
+    ensures { IfOk result (λ copy. copy ≡ totals.now) }
+{
+    Ok(Totals::new(totals.as_slice().to_vec(alloc)?))
+}
+
+pub(super) fn copy_attrs(alloc: Global, attrs: &NamedAttrs) -> Result<NamedAttrs, AllocError>
+    ensures { IfOk result (λ copy. copy ≡ attrs.now) }
+{
+    let pairs = copy_each(alloc, attrs.as_slice())?;
+    Ok(NamedAttrs::new(pairs))
+}
+
+pub(super) fn copy_controllers(
+    alloc: Global,
+    controllers: &Controllers,
+) -> Result<Controllers, AllocError>
+    ensures { IfOk result (λ copy. copy ≡ controllers.now) }
+{
+    Ok(Controllers::new(copy_each(alloc, controllers.as_slice())?))
+}
+
+pub(super) fn copy_parts(alloc: Global, parts: &Parts) -> Result<Parts, AllocError>
+    ensures { IfOk result (λ copy. copy ≡ parts.now) }
+{
+    Ok(Parts::new(copy_each(alloc, parts.as_slice())?))
+}
