@@ -193,6 +193,7 @@ fn copy_trace_reply(alloc: Global, reply: &Reply) -> Result<Reply, AllocError>
     }
 }
 
+/// A stored subnetwork, or none where it was removed.
 fn copy_row(alloc: Global, row: &Option<StoredSubnet>) -> Result<Option<StoredSubnet>, AllocError>
     ensures { IfOk result (λ copy. copy ≡ row.now) }
 {
@@ -210,6 +211,7 @@ fn copy_row(alloc: Global, row: &Option<StoredSubnet>) -> Result<Option<StoredSu
     }
 }
 
+/// A feature with its names.
 fn copy_feature(alloc: Global, feature: &FeatureReply) -> Result<FeatureReply, AllocError>
     ensures { IfOk result (λ copy. copy ≡ feature.now) }
 {
@@ -226,6 +228,7 @@ fn copy_feature(alloc: Global, feature: &FeatureReply) -> Result<FeatureReply, A
     })
 }
 
+/// The name of a path, if there is one.
 fn copy_path(alloc: Global, path: &Option<Name>) -> Result<Option<Name>, AllocError>
     ensures { IfOk result (λ copy. copy ≡ path.now) }
 {
@@ -235,6 +238,7 @@ fn copy_path(alloc: Global, path: &Option<Name>) -> Result<Option<Name>, AllocEr
     }
 }
 
+/// What a trace reached.
 fn copy_result(alloc: Global, traced: &ResultReply) -> Result<ResultReply, AllocError>
     ensures { IfOk result (λ copy. copy ≡ traced.now) }
 {

@@ -18,11 +18,21 @@ mod read_back;
 mod refusals;
 
 // Whether the reply is printed so.
-fn gives(alloc: Global, reply: &Reply, text: &[u8]) -> bool
+fn prints(alloc: Global, reply: &Reply, text: &[u8]) -> bool
     requires { HasRefusalName reply.now }
 {
     let mut out = Vec::new(alloc);
     print_reply(alloc, reply, &mut out).is_ok() && out.as_slice() == text
+}
+
+// Whether the reply and a copy of it are printed so.
+fn gives(alloc: Global, reply: &Reply, text: &[u8]) -> bool
+    requires { HasRefusalName reply.now }
+{
+    let Ok(copy) = reply.copy(alloc) else {
+        return false;
+    };
+    prints(alloc, reply, text) && prints(alloc, &copy, text)
 }
 
 #[tactic(auto, using(crate::proofs::Plain::name_made))]

@@ -40,6 +40,7 @@ impl Element for Part {
     }
 }
 
+/// A copy of each element, in order.
 fn copy_each<T: Element>(alloc: Global, items: &[T]) -> Result<Vec<T>, AllocError>
     ensures { IfOk result (λ copies. copies.items ≡ items.now) }
 {
@@ -50,48 +51,56 @@ fn copy_each<T: Element>(alloc: Global, items: &[T]) -> Result<Vec<T>, AllocErro
     Ok(copies)
 }
 
+/// These ids, in a list of its own.
 pub(super) fn copy_ids(alloc: Global, ids: &Ids) -> Result<Ids, AllocError>
     ensures { IfOk result (λ copy. copy ≡ ids.now) }
 {
     Ok(Ids::new(ids.as_slice().to_vec(alloc)?))
 }
 
+/// These ports, in a list of its own.
 pub(super) fn copy_ports(alloc: Global, ports: &Ports) -> Result<Ports, AllocError>
     ensures { IfOk result (λ copy. copy ≡ ports.now) }
 {
     Ok(Ports::new(ports.as_slice().to_vec(alloc)?))
 }
 
+/// These dirty areas, in a list of its own.
 pub(super) fn copy_areas(alloc: Global, areas: &Areas) -> Result<Areas, AllocError>
     ensures { IfOk result (λ copy. copy ≡ areas.now) }
 {
     Ok(Areas::new(areas.as_slice().to_vec(alloc)?))
 }
 
+/// These errors with their points, in a list of its own.
 pub(super) fn copy_errors(alloc: Global, errors: &PlacedErrors) -> Result<PlacedErrors, AllocError>
     ensures { IfOk result (λ copy. copy ≡ errors.now) }
 {
     Ok(PlacedErrors::new(errors.as_slice().to_vec(alloc)?))
 }
 
+/// These points, in a list of its own.
 pub(super) fn copy_points(alloc: Global, points: &Points) -> Result<Points, AllocError>
     ensures { IfOk result (λ copy. copy ≡ points.now) }
 {
     Ok(Points::new(points.as_slice().to_vec(alloc)?))
 }
 
+/// These segments, in a list of its own.
 pub(super) fn copy_segments(alloc: Global, segments: &Segments) -> Result<Segments, AllocError>
     ensures { IfOk result (λ copy. copy ≡ segments.now) }
 {
     Ok(Segments::new(segments.as_slice().to_vec(alloc)?))
 }
 
+/// These values of functions, in a list of its own.
 pub(super) fn copy_totals(alloc: Global, totals: &Totals) -> Result<Totals, AllocError>
     ensures { IfOk result (λ copy. copy ≡ totals.now) }
 {
     Ok(Totals::new(totals.as_slice().to_vec(alloc)?))
 }
 
+/// These attributes with their names, in a list of its own.
 pub(super) fn copy_attrs(alloc: Global, attrs: &NamedAttrs) -> Result<NamedAttrs, AllocError>
     ensures { IfOk result (λ copy. copy ≡ attrs.now) }
 {
@@ -99,6 +108,7 @@ pub(super) fn copy_attrs(alloc: Global, attrs: &NamedAttrs) -> Result<NamedAttrs
     Ok(NamedAttrs::new(pairs))
 }
 
+/// These controllers with their names, in a list of its own.
 pub(super) fn copy_controllers(
     alloc: Global,
     controllers: &Controllers,
@@ -108,6 +118,7 @@ pub(super) fn copy_controllers(
     Ok(Controllers::new(copy_each(alloc, controllers.as_slice())?))
 }
 
+/// These features with their ports, in a list of its own.
 pub(super) fn copy_parts(alloc: Global, parts: &Parts) -> Result<Parts, AllocError>
     ensures { IfOk result (λ copy. copy ≡ parts.now) }
 {
