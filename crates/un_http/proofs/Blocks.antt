@@ -1,4 +1,4 @@
--- Blocks at the front of bytes.
+-- Blocks that bytes begin with.
 use Rattle.std.proofs.Common.{◌≡◌, inl, inr, ℕ, ◌+◌, ◌<◌, ◌≤◌, true, List, ◌∷◌, [], ◌++◌, refl, sym, ◌∙◌, ap, subst, take, drop, length, arith, append_assoc, Option, zero, suc}
 use Rattle.std.proofs.lemmas.Grind.{common_steps}
 use Rattle.std.proofs.lemmas.List.{length-drop, length-append, length-take-le, take-append-drop, take-append-le}

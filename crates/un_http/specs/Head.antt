@@ -74,9 +74,13 @@ first_check method headers =
 abbrev pub lists_close : List ℕ → Bool
 lists_close text = list_any (λ item. str_eq_ignore_ascii_case (trim_ows item) (codes "close")) (slice_split (λ byte. byte == 44) text)
 
+-- a Connection header has close in its list
+abbrev pub asks_close : List Header → Bool
+asks_close headers = list_any lists_close (values (codes "connection") headers)
+
 -- the link closes after the response (RFC 9112, section 9.3)
 abbrev pub closes : ℕ → List Header → Bool
-closes minor headers = minor == 0 || list_any lists_close (values (codes "connection") headers)
+closes minor headers = minor == 0 || asks_close headers
 
 -- the target up to the first question mark
 abbrev pub path_of : List ℕ → List ℕ

@@ -3,6 +3,7 @@ pub mod Block
 pub mod Filling
 pub mod Passed
 pub mod Head
+pub mod Headers
 pub mod Kinds
 pub mod Requests
 pub mod Response

@@ -1,5 +1,7 @@
-//! Reading a link as far as a request needs, and no further than one read beyond its head.
-ghost use Rattle.std.specs.Prelude.{◌≡◌, ℕ, ◌+◌, ◌*◌, ◌<◌, ◌≤◌, List, Option, length, vec_len, vec_capacity};
+//! Reading a link as far as the next request needs.
+//!
+//! A read that looks for the end of a block may give bytes beyond it. One that fills a body never does.
+ghost use Rattle.std.specs.Prelude.{◌≡◌, ◌+◌, ◌*◌, ◌<◌, ◌≤◌, length, vec_len, vec_capacity};
 ghost use Rattle.un_io.specs.Outside.{CountsReads, Rose};
 ghost use Rattle.un_http.specs.Filling.{More, Appended, Skips, BeginsBy, FillsBy, Finds};
 

@@ -1,9 +1,10 @@
 //! The head of a request: what it asks for, or the check that it fails.
-ghost use Rattle.std.specs.Prelude.{◌≡◌, ◌==◌, ◌≤◌, ◌+◌, ℕ, List, [], Some, None, IfOk, IfErr, length, map, take};
-ghost use Rattle.std.specs.List.{All, position_or_len};
+ghost use Rattle.std.specs.Prelude.{◌≡◌, ◌==◌, ◌≤◌, Some, None, IfOk, IfErr, length};
+ghost use Rattle.std.specs.List.{position_or_len};
 ghost use Rattle.httparse.specs.Grammar.{RequestHead};
-ghost use Rattle.httparse.specs.Spans.{IsWithin, IsHeaderWithin, IsRequestWithin, IsRequestAt, header_bytes, span_bytes};
-ghost use Rattle.un_http.specs.Head.{IsHead, Fails, length_check, first_check, body_size, closes, path_of};
+ghost use Rattle.httparse.specs.Spans.{IsWithin, IsRequestWithin, IsRequestAt, span_bytes};
+ghost use Rattle.un_http.specs.Head.{IsHead, Fails, length_check, first_check, body_size};
+ghost use Rattle.un_http.specs.Headers.{AreWithin, headers_at};
 ghost use Rattle.un_http.specs.Passed.{IsPassed, IsChecked};
 
 use crate::check::Check;
@@ -61,10 +62,10 @@ fn parse_whole(block: &[u8], headers: &mut [HeaderSpan]) -> Result<RequestSpans,
 
 // The length of the body in bytes, or the check that the lengths in the headers fail.
 fn body_length(block: &[u8], headers: &[HeaderSpan], method: &[u8]) -> Result<usize, Check>
-    requires { All (IsHeaderWithin (length block.now)) headers.now }
-    ensures ok { IfOk result (λ size. (length_check method.now (map (header_bytes block.now) headers.now) ≡ None)
-        × (size ≡ body_size (map (header_bytes block.now) headers.now)) × (size ≤ 1048576)) }
-    ensures err { IfErr result (λ check. length_check method.now (map (header_bytes block.now) headers.now) ≡ Some check) }
+    requires { AreWithin block.now headers.now }
+    ensures ok { IfOk result (λ size. (length_check method.now (headers_at block.now headers.now) ≡ None)
+        × (size ≡ body_size (headers_at block.now headers.now)) × (size ≤ 1048576)) }
+    ensures err { IfErr result (λ check. length_check method.now (headers_at block.now headers.now) ≡ Some check) }
 {
     match first_value(block, headers, b"content-length") {
         None if method == b"POST".as_slice() => Err(Check::NoLength),
@@ -91,11 +92,11 @@ fn path_len(target: &[u8]) -> usize
 
 // What a head with these headers says, or the first check that it fails.
 fn check_headers(block: &[u8], headers: &[HeaderSpan], spans: RequestSpans) -> Result<Passed, Check>
-    requires within { All (IsHeaderWithin (length block.now)) headers.now }
+    requires within { AreWithin block.now headers.now }
     requires method { IsWithin (length block.now) spans.method }
     requires path { IsWithin (length block.now) spans.path }
-    ensures ok { IfOk result (IsChecked block.now (map (header_bytes block.now) headers.now) spans) }
-    ensures err { IfErr result (λ check. first_check (span_bytes block.now spans.method) (map (header_bytes block.now) headers.now) ≡ Some check) }
+    ensures ok { IfOk result (IsChecked block.now (headers_at block.now headers.now) spans) }
+    ensures err { IfErr result (λ check. first_check (span_bytes block.now spans.method) (headers_at block.now headers.now) ≡ Some check) }
 {
     if headers.len() > MOST_HEADERS {
         return Err(Check::ManyHeaders);

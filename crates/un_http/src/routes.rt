@@ -1,12 +1,12 @@
 //! Finding the route of a path.
 //!
 //! The router says which kind of route a path may have; a feature's id and a subnetwork's names are then tested here.
-ghost use Rattle.std.specs.Prelude.{◌≡◌, Bool, true, ℕ, List, Option, Some, None, MatchOption, IfOk, false, ◌≢◌, ◌∷◌, ◌++◌, ◌+◌, ◌<◌, ◌≤◌, ◌==◌, length, take, drop};
+ghost use Rattle.std.specs.Prelude.{◌≡◌, true, ℕ, List, MatchOption, IfOk, false, ◌∷◌, ◌++◌, ◌+◌, ◌<◌, ◌≤◌, ◌==◌, length, take, drop};
 ghost use Rattle.std.specs.List.{list_all, position_or_len};
 ghost use Rattle.un_http.specs.Head.{number};
-ghost use Rattle.un_http.specs.Routes.{IsRoute, Finds, is_name_byte, is_name, is_id, by_get, method_of};
+ghost use Rattle.un_http.specs.Routes.{IsRoute, Finds, is_name_byte, is_name, is_id, by_get};
 ghost use Rattle.un_http.specs.Table.{table};
-ghost use Rattle.un_http.specs.Kinds.{kind_at, IsKindOf};
+ghost use Rattle.un_http.specs.Kinds.{kind_at};
 
 use crate::kind::Kind;
 use crate::number::{is_number, small_number};

@@ -1,5 +1,5 @@
 //! Doors: what links arrive at, such as TCP listeners.
-ghost use Rattle.std.specs.Prelude.{◌≡◌, ℕ, Bool, false, [], Some, None};
+ghost use Rattle.std.specs.Prelude.{◌≡◌, ℕ, Bool, false};
 ghost use Rattle.un_io.specs.Doors.{CountsCame, Closes, next_came, door_behind};
 
 use crate::link::{Link, MemLink, StreamLink};

@@ -1,5 +1,5 @@
 //! Links: connections that are read and written, such as TCP streams.
-ghost use Rattle.std.specs.Prelude.{◌≡◌, ℕ, ◌<◌, ◌≤◌, List, Option, Some, None, length, take, IfOk, OnOk, OnErr};
+ghost use Rattle.std.specs.Prelude.{◌≡◌, ℕ, ◌<◌, ◌≤◌, List, Option, Some, None, length, take, OnOk, OnErr};
 ghost use Rattle.std.specs.Io.KnownBytes.{Appends};
 ghost use Rattle.un_io.specs.Outside.{Rose, Reads, Writes, CountsReads, CountsWrites};
 ghost use Rattle.un_io.specs.Plans.{next_read, read_by, next_write, written_by};
