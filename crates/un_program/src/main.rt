@@ -10,7 +10,7 @@ use un_script::run_script;
 /// The status where there is no memory for the words.
 const NO_MEMORY: u8 = 7;
 
-/// The status where the words are no command.
+/// The status where the words are no command, or one of them is not UTF-8.
 const NO_COMMAND: u8 = 2;
 
 // The words behind the program's name.
@@ -22,13 +22,23 @@ fn words<R: Env + AllocGlobal>(rt: &R) -> io::Result<Vec<Word>> {
     Ok(words)
 }
 
+// The status where the words cannot be had.
+fn no_words(fault: &io::Error) -> u8 {
+    match fault.kind() {
+        io::ErrorKind::InvalidData => NO_COMMAND,
+        _ => NO_MEMORY,
+    }
+}
+
 fn main(rt: HostRuntime) -> ExitCode {
-    let Ok(words) = words(&rt) else {
-        return ExitCode::from(NO_MEMORY);
+    let status = match words(&rt) {
+        Ok(words) => {
+            let mut source = ReadSource::new(rt.stdin());
+            let mut sink = WriteSink::new(rt.stdout());
+            run_script(rt.alloc(), words.as_slice(), &mut source, &mut sink)
+        }
+        Err(fault) => no_words(&fault),
     };
-    let mut source = ReadSource::new(rt.stdin());
-    let mut sink = WriteSink::new(rt.stdout());
-    let status = run_script(rt.alloc(), words.as_slice(), &mut source, &mut sink);
     if status == NO_COMMAND {
         let _ = eprintln!(rt; "usage: un_program script");
     }
