@@ -5,8 +5,10 @@ ghost use Rattle.std.specs.List.{enumerate_from, AllByRecursion};
 ghost use Rattle.un_geom.specs.Places.{meets, covers};
 ghost use Rattle.un_dirty.specs.Areas.{no_areas, added, cleared, least_number, without_all as all_removed, IsNumbered};
 
+use crate::cells::{Cells, least_over, with_areas, without_areas};
 use std::alloc::{AllocError, Global};
 use std::marker::Model;
+use std::ops::Bound;
 use std::sync::Arc;
 use thiserror::Error;
 use un_geom::{Point, Rect};
@@ -20,16 +22,20 @@ pub const MOST_AREAS: u64 = 65_536;
 pub struct Dirty {
     areas: Paged<u64, Rect>,
     next: u64,
+    cells: Cells,
+    // Each area's level is below this number.
+    levels: u32,
 }
 
 impl Model for Dirty {
-    ghost use Rattle.un_dirty.specs.Areas.{DirtyList, IsUnder};
+    ghost use Rattle.un_dirty.specs.Areas.{DirtyList};
+    ghost use Rattle.un_dirty.specs.Cells.{IsKept};
 
     ghost Value = { DirtyList };
 
     ghost view = { λ d. record { areas = d.areas; next = d.next } };
 
-    ghost invariant = { λ d. IsUnder d.areas d.next };
+    ghost invariant = { λ d. IsKept d.areas d.next d.cells d.levels };
 }
 
 /// Why rectangles do not become areas.
@@ -62,6 +68,8 @@ impl Dirty {
         Dirty {
             areas: Paged::new(),
             next: 1,
+            cells: Paged::new(),
+            levels: 0,
         }
     }
 
@@ -89,6 +97,8 @@ impl Dirty {
         Ok(Dirty {
             areas: self.areas.share()?,
             next: self.next,
+            cells: self.cells.share()?,
+            levels: self.levels,
         })
     }
 
@@ -104,9 +114,12 @@ impl Dirty {
             return Err(DirtyFault::Full);
         }
         let areas = extended(&self.areas, alloc, self.next, rects)?;
+        let (cells, levels) = with_areas(&self.cells, alloc, self.levels, self.next, rects)?;
         Ok(Dirty {
             areas,
             next: self.next + count,
+            cells,
+            levels,
         })
     }
 
@@ -121,9 +134,15 @@ impl Dirty {
     pub fn clear_meeting(&self, alloc: Global, extent: Rect) -> Result<Dirty, Memory>
         ensures { IfOk result (λ d. d ≡ cleared self.now extent) }
     {
+        let _len = self.areas.len();
+        let (areas, gone) = parted(&self.areas, alloc, &extent)?;
+        let cells = without_areas(&self.cells, alloc, gone.as_slice())?;
+        let levels = levels_left(&areas, self.levels);
         Ok(Dirty {
-            areas: areas_apart(&self.areas, alloc, &extent)?,
+            areas,
             next: self.next,
+            cells,
+            levels,
         })
     }
 
@@ -133,7 +152,7 @@ impl Dirty {
         ensures least { result ≡ least_number (map (λ a. a.0) (filter (λ a. covers a.1 p) self.now.areas)) }
     {
         let _len = self.areas.len();
-        first_covering(&self.areas, p)
+        least_over(&self.areas, &self.cells, self.levels, p)
     }
 }
 
@@ -165,27 +184,35 @@ fn areas_meeting(
     ensures { IfOk result (λ met. met.items ≡ filter (λ a. meets a.1 extent.now) areas.now) }
 {
     let mut met = Vec::new(alloc);
-    let mut after = None;
-    while let Some((number, rect)) = areas.next(after) {
+    for (number, rect) in areas.range(Bound::Unbounded) {
         if rect.meets(extent) {
             met.push((number, **rect))?;
         }
-        after = Some(number);
     }
     Ok(met)
 }
 
-// The areas that do not meet the rectangle.
-fn areas_apart(
+// How many levels may be in use: none once no area is left.
+fn levels_left(areas: &Paged<u64, Rect>, levels: u32) -> u32
+    ensures few { result ≤ levels }
+    ensures same { 0 < length areas.now → result ≡ levels }
+{
+    if areas.len() == 0 { 0 } else { levels }
+}
+
+// The areas that do not meet the rectangle, and those that do.
+fn parted(
     areas: &Paged<u64, Rect>,
     alloc: Global,
     extent: &Rect,
-) -> Result<Paged<u64, Rect>, Memory>
-    ensures { IfOk result (λ m. m ≡ filter (λ a. not (meets a.1 extent.now)) areas.now) }
+) -> Result<(Paged<u64, Rect>, Vec<(u64, Rect)>), Memory>
+    ensures apart { IfOk result (λ r. r.0 ≡ filter (λ a. not (meets a.1 extent.now)) areas.now) }
+    ensures met { IfOk result (λ r. r.1.items ≡ filter (λ a. meets a.1 extent.now) areas.now) }
 {
     let _len = areas.len();
     let met = areas_meeting(areas, alloc, extent)?;
-    without_all(areas, alloc, met.as_slice())
+    let apart = without_all(areas, alloc, met.as_slice())?;
+    Ok((apart, met))
 }
 
 // The areas without those with these numbers.
@@ -201,17 +228,4 @@ fn without_all(
         left.take(alloc, &area.0)?;
     }
     Ok(left)
-}
-
-fn first_covering(areas: &Paged<u64, Rect>, p: Point) -> Option<u64>
-    ensures { result ≡ option_map (λ a. a.0) (find (λ a. covers a.1 p) areas.now) }
-{
-    let mut passed = None;
-    while let Some((number, rect)) = areas.next(passed) {
-        if rect.covers(p) {
-            return Some(number);
-        }
-        passed = Some(number);
-    }
-    None
 }

@@ -1,0 +1,79 @@
+-- Cells of the plane, and the numbers of the areas in them.
+use Rattle.std.specs.Prelude.{◌≡◌, ℕ, ◌-◌, ◌/◌, ◌^◌, ◌<◌, ◌≤◌, min, max, ℤ, pos, neg_ℤ, ◌-ℤ◌, unsigned_abs, Bool, true, false, List, [], Option, None, Some, unwrap_or}
+use Rattle.std.specs.declared.cmp.Ordering.{Ordering}
+use Rattle.std.specs.Ordering.{nat_cmp, ordering_then}
+use Rattle.std.specs.Int.{leading_zeros, w32}
+use Rattle.std.specs.List.{AllByRecursion}
+use Rattle.std.specs.Map.{lookup}
+use Rattle.std.specs.BTreeMap.{is_at}
+use Rattle.std.specs.Option.{is_some}
+use Rattle.un_geom.specs.declared.point.Point.{Point}
+use Rattle.un_geom.specs.Rectangle.{Rectangle}
+use Rattle.un_geom.specs.Places.{covers}
+use Rattle.un_dirty.specs.declared.cells.Cell.{Cell}
+use Rattle.un_dirty.specs.Areas.{IsUnder}
+
+-- numbers, as the keys of a map
+abbrev pub Numbers : Type 0
+Numbers = List (ℕ × Unit {0})
+
+-- cells, each with the numbers in it
+abbrev pub CellMap : Type 0
+CellMap = List (Cell × Numbers)
+
+-- cells compare by level, then column, then row
+abbrev pub cell_cmp : Cell → Cell → Ordering
+cell_cmp a b = ordering_then (nat_cmp a.level b.level) (ordering_then (nat_cmp a.column b.column) (nat_cmp a.row b.row))
+
+-- the numbers in a cell
+abbrev pub numbers_in : Cell → CellMap → Numbers
+numbers_in k cells = unwrap_or (lookup (is_at (cell_cmp k)) cells) []
+
+abbrev pub has_number : ℕ → Numbers → Bool
+has_number n numbers = is_some (lookup (is_at (nat_cmp n)) numbers)
+
+-- the number is in the cell
+abbrev pub is_in : Cell → ℕ → CellMap → Bool
+is_in k n cells = has_number n (numbers_in k cells)
+
+-- the level of a rectangle: the least one whose cells are longer than its longer side, and at most 19
+unfoldable pub level_of : Rectangle → ℕ
+level_of r = min (32 - leading_zeros w32 (max (unsigned_abs (r.x1 -ℤ r.x0)) (unsigned_abs (r.y1 -ℤ r.y0)) / 4096)) 19
+
+-- the column of an x, or the row of a y: cells of level 0 have sides of 4,096 mm, and those of each further level twice as long ones
+unfoldable pub cell_index : ℕ → ℤ → ℕ
+cell_index level n = (unsigned_abs (n -ℤ neg_ℤ (pos 2147483648)) / 4096) / 2 ^ level
+
+-- the cell of a level in which a point lies
+abbrev pub cell_at : ℕ → Point → Cell
+cell_at level p = record { level = level; column = cell_index level p.x; row = cell_index level p.y }
+
+abbrev pub is_covered : Point → Option Rectangle → Bool
+is_covered p None = false
+is_covered p (Some r) = covers r p
+
+-- the area with the number covers the point
+abbrev pub covers_at : Point → ℕ → List (ℕ × Rectangle) → Bool
+covers_at p n areas = is_covered p (lookup (is_at (nat_cmp n)) areas)
+
+-- the lesser of two numbers, or the one that there is
+abbrev pub lesser_of : Option ℕ → Option ℕ → Option ℕ
+lesser_of None b = b
+lesser_of (Some m) None = Some m
+lesser_of (Some m) (Some n) = Some (min m n)
+
+-- there is a number, and it is at most n
+abbrev pub IsAtMost : Option ℕ → ℕ → Type 0
+IsAtMost None n = ⊥
+IsAtMost (Some m) n = m ≤ n
+
+-- the number of an area is in the cell, of the area's level, of each point that the area covers
+pub record IsShown (cells : CellMap) (levels : ℕ) (a : ℕ × Rectangle) : Type 0 where
+  pub low : level_of a.1 < levels
+  pub all : (p : Point) → covers a.1 p ≡ true → is_in (cell_at (level_of a.1) p) a.0 cells ≡ true
+
+-- what holds of the parts of each list of areas
+pub record IsKept (areas : List (ℕ × Rectangle)) (next : ℕ) (cells : CellMap) (levels : ℕ) : Type 0 where
+  pub under : IsUnder areas next
+  pub few_levels : levels ≤ 20
+  pub shown : AllByRecursion (IsShown cells levels) areas

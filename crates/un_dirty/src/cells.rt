@@ -1,0 +1,365 @@
+//! Which areas lie where: the numbers of the areas by cells of the plane.
+//!
+//! The plane is cut into square cells, once for each of 20 levels: those of level 0 have sides of 4,096 mm, and those of each further level
+//! sides twice as long as those of the level before. An area belongs to the least level whose cells are longer than its longer side, so it
+//! lies in at most four cells of its level. Its number stands in each of them.
+//!
+//! A point lies in one cell of each level. The number of an area that covers it stands in its cell of the area's level. So the least number
+//! of an area over the point is found among the numbers in the point's cells: of each cell it takes the first whose area covers the point.
+//! The area is looked up by its number, so nothing rests on a cell having no other numbers.
+ghost use Rattle.std.specs.Prelude.{◌≡◌, ◌≢◌, ℕ, ◌+◌, ◌<◌, ◌≤◌, ◌^◌, true, find, length, IfOk, OnOk, IfSome};
+ghost use Rattle.std.specs.Option.{option_map};
+ghost use Rattle.std.specs.Ordering.{nat_cmp};
+ghost use Rattle.std.specs.List.{AllByRecursion, enumerate_from};
+ghost use Rattle.un_geom.specs.declared.point.Point.{Point};
+ghost use Rattle.un_geom.specs.Rectangle.{IsBounded};
+ghost use Rattle.un_geom.specs.Places.{covers};
+ghost use Rattle.un_pages.specs.Pairs.{IsOrdered};
+ghost use Rattle.un_dirty.specs.declared.cells.Cell.{Cell};
+ghost use Rattle.un_dirty.specs.Cells.{numbers_in, is_in, level_of, cell_index, cell_at, covers_at, lesser_of, IsAtMost, IsShown};
+
+use std::alloc::Global;
+use std::ops::Bound;
+use std::sync::Arc;
+use un_geom::{Point, Rect};
+use un_pages::{Memory, Paged};
+
+/// The side of a cell of level 0, in millimetres.
+const SIDE: u32 = 4096;
+
+/// The highest level.
+const HIGHEST: u32 = 19;
+
+/// A square of the plane.
+#[derive(Clone, Copy, PartialEq, Eq, PartialOrd, Ord)]
+pub(crate) struct Cell {
+    level: u32,
+    column: u32,
+    row: u32,
+}
+
+/// The numbers of areas.
+type Numbers = Paged<u64, ()>;
+
+/// The cells in which areas lie, each with their numbers.
+pub(crate) type Cells = Paged<Cell, Numbers>;
+
+// The level to which an area belongs.
+#[tactic(auto, unfolding(crate::specs::Cells::level_of))]
+fn level(rect: &Rect) -> u32
+    ensures level { result ≡ level_of rect.now }
+    ensures bound { result ≤ 19 }
+{
+    let [x0, y0, x1, y1] = rect.sides();
+    let longer = x1.abs_diff(x0).max(y1.abs_diff(y0));
+    let bits = u32::BITS.saturating_sub((longer / SIDE).leading_zeros());
+    bits.min(HIGHEST)
+}
+
+// The column of an x, or the row of a y.
+fn index(level: u32, place: i32) -> u32
+    requires { level ≤ 19 }
+    ensures index { result ≡ cell_index level place }
+    ensures bound { result < 1_048_576 }
+{
+    (place.abs_diff(i32::MIN) / SIDE) >> level
+}
+
+fn cell_of(level: u32, p: Point) -> Cell
+    requires { level ≤ 19 }
+    ensures { result ≡ cell_at level p }
+{
+    Cell {
+        level,
+        column: index(level, p.x),
+        row: index(level, p.y),
+    }
+}
+
+// The cell of the corner with the least x and y.
+fn low_cell(level: u32, rect: &Rect) -> Cell
+    requires { level ≤ 19 }
+    ensures level { result.level ≡ level }
+    ensures column { result.column ≡ cell_index level rect.now.x0 }
+    ensures row { result.row ≡ cell_index level rect.now.y0 }
+    ensures bounded { IsBounded rect.now }
+{
+    let [x0, y0, _, _] = rect.sides();
+    Cell {
+        level,
+        column: index(level, x0),
+        row: index(level, y0),
+    }
+}
+
+// The cell of the corner with the greatest x and y.
+fn high_cell(level: u32, rect: &Rect) -> Cell
+    requires { level ≤ 19 }
+    ensures column { result.column ≡ cell_index level rect.now.x1 }
+    ensures row { result.row ≡ cell_index level rect.now.y1 }
+    ensures column_bound { result.column < 1_048_576 }
+    ensures row_bound { result.row < 1_048_576 }
+{
+    let [_, _, x1, y1] = rect.sides();
+    Cell {
+        level,
+        column: index(level, x1),
+        row: index(level, y1),
+    }
+}
+
+fn numbers_of(cells: &Cells, cell: &Cell) -> Result<Numbers, Memory>
+    ensures { IfOk result (λ numbers. numbers ≡ numbers_in cell.now cells.now) }
+{
+    match cells.get(cell) {
+        Some(numbers) => Ok(numbers.share()?),
+        None => Ok(Paged::new()),
+    }
+}
+
+// Puts the number of an area into a cell.
+fn put(cells: &mut Cells, alloc: Global, cell: Cell, area: u64) -> Result<(), Memory>
+    ensures here { OnOk result (is_in cell area cells.new ≡ true) }
+    ensures kept { OnOk result ((k : Cell) → (n : ℕ) → is_in k n cells.old ≡ true → is_in k n cells.new ≡ true) }
+{
+    let numbers = numbers_of(cells, &cell)?;
+    let more = numbers.with(alloc, area, ())?;
+    cells.put(alloc, cell, Arc::new(alloc, more)?)?;
+    Ok(())
+}
+
+// Puts the number of an area into the cells of a row, from the first one to a column.
+fn put_row(
+    cells: &mut Cells,
+    alloc: Global,
+    first: Cell,
+    last: u32,
+    area: u64,
+) -> Result<(), Memory>
+    requires { last < 1_048_576 }
+    ensures all { OnOk result ((k : Cell) → k.level ≡ first.level → first.column ≤ k.column → k.column ≤ last → k.row ≡ first.row → is_in k area cells.new ≡ true) }
+    ensures kept { OnOk result ((k : Cell) → (n : ℕ) → is_in k n cells.old ≡ true → is_in k n cells.new ≡ true) }
+{
+    for column in first.column..last + 1 {
+        put(
+            cells,
+            alloc,
+            Cell {
+                level: first.level,
+                column,
+                row: first.row,
+            },
+            area,
+        )?;
+    }
+    Ok(())
+}
+
+// Puts the number of an area into the cells from one corner to the other.
+fn put_block(
+    cells: &mut Cells,
+    alloc: Global,
+    low: Cell,
+    high: Cell,
+    area: u64,
+) -> Result<(), Memory>
+    requires column { high.column < 1_048_576 }
+    requires row { high.row < 1_048_576 }
+    ensures all { OnOk result ((k : Cell) → k.level ≡ low.level → low.column ≤ k.column → k.column ≤ high.column → low.row ≤ k.row → k.row ≤ high.row → is_in k area cells.new ≡ true) }
+    ensures kept { OnOk result ((k : Cell) → (n : ℕ) → is_in k n cells.old ≡ true → is_in k n cells.new ≡ true) }
+{
+    for row in low.row..high.row + 1 {
+        put_row(
+            cells,
+            alloc,
+            Cell {
+                level: low.level,
+                column: low.column,
+                row,
+            },
+            high.column,
+            area,
+        )?;
+    }
+    Ok(())
+}
+
+// Puts the number of an area into the cells in which it lies.
+fn put_area(cells: &mut Cells, alloc: Global, rect: &Rect, area: u64) -> Result<(), Memory>
+    ensures all { OnOk result ((p : Point) → covers rect.now p ≡ true → is_in (cell_at (level_of rect.now) p) area cells.new ≡ true) }
+    ensures kept { OnOk result ((k : Cell) → (n : ℕ) → is_in k n cells.old ≡ true → is_in k n cells.new ≡ true) }
+{
+    let level = level(rect);
+    let low = low_cell(level, rect);
+    let high = high_cell(level, rect);
+    put_block(cells, alloc, low, high, area)?;
+    Ok(())
+}
+
+/// The cells with the areas of some rectangles, numbered from the first number on, and how many levels are in use.
+pub(crate) fn with_areas(
+    cells: &Cells,
+    alloc: Global,
+    levels: u32,
+    first: u64,
+    rects: &[Rect],
+) -> Result<(Cells, u32), Memory>
+    requires few { levels ≤ 20 }
+    requires room { first + length rects.now < 2 ^ 64 }
+    ensures few { IfOk result (λ r. r.1 ≤ 20) }
+    ensures rising { IfOk result (λ r. levels ≤ r.1) }
+    ensures kept { IfOk result (λ r. (k : Cell) → (n : ℕ) → is_in k n cells.now ≡ true → is_in k n r.0 ≡ true) }
+    ensures each { IfOk result (λ r. AllByRecursion (IsShown r.0 r.1) (enumerate_from first rects.now)) }
+{
+    let mut all = cells.share()?;
+    let mut used = levels;
+    let mut number = first;
+    for rect in rects {
+        put_area(&mut all, alloc, rect, number)?;
+        let above = level(rect) + 1;
+        used = used.max(above);
+        number += 1;
+    }
+    Ok((all, used))
+}
+
+// Takes the number of an area out of a cell.
+fn take(cells: &mut Cells, alloc: Global, cell: Cell, area: u64) -> Result<(), Memory>
+    ensures { OnOk result ((k : Cell) → (n : ℕ) → n ≢ area → is_in k n cells.old ≡ true → is_in k n cells.new ≡ true) }
+{
+    let numbers = numbers_of(cells, &cell)?;
+    let left = numbers.without(alloc, &area)?;
+    if left.len() == 0 {
+        cells.take(alloc, &cell)?;
+        return Ok(());
+    }
+    cells.put(alloc, cell, Arc::new(alloc, left)?)?;
+    Ok(())
+}
+
+// Takes the number of an area out of the cells of a row, from the first one to a column.
+fn take_row(
+    cells: &mut Cells,
+    alloc: Global,
+    first: Cell,
+    last: u32,
+    area: u64,
+) -> Result<(), Memory>
+    requires { last < 1_048_576 }
+    ensures { OnOk result ((k : Cell) → (n : ℕ) → n ≢ area → is_in k n cells.old ≡ true → is_in k n cells.new ≡ true) }
+{
+    for column in first.column..last + 1 {
+        take(
+            cells,
+            alloc,
+            Cell {
+                level: first.level,
+                column,
+                row: first.row,
+            },
+            area,
+        )?;
+    }
+    Ok(())
+}
+
+// Takes the number of an area out of the cells in which it lies.
+fn take_area(cells: &mut Cells, alloc: Global, rect: &Rect, area: u64) -> Result<(), Memory>
+    ensures { OnOk result ((k : Cell) → (n : ℕ) → n ≢ area → is_in k n cells.old ≡ true → is_in k n cells.new ≡ true) }
+{
+    let level = level(rect);
+    let low = low_cell(level, rect);
+    let high = high_cell(level, rect);
+    for row in low.row..high.row + 1 {
+        take_row(
+            cells,
+            alloc,
+            Cell {
+                level,
+                column: low.column,
+                row,
+            },
+            high.column,
+            area,
+        )?;
+    }
+    Ok(())
+}
+
+/// The cells without the numbers of some areas.
+pub(crate) fn without_areas(
+    cells: &Cells,
+    alloc: Global,
+    gone: &[(u64, Rect)],
+) -> Result<Cells, Memory>
+    ensures { IfOk result (λ r. (k : Cell) → (n : ℕ) → AllByRecursion (λ a. n ≢ a.0) gone.now → is_in k n cells.now ≡ true → is_in k n r ≡ true) }
+{
+    let mut left = cells.share()?;
+    for area in gone {
+        take_area(&mut left, alloc, &area.1, area.0)?;
+    }
+    Ok(left)
+}
+
+fn covers_point(areas: &Paged<u64, Rect>, number: u64, p: Point) -> bool
+    ensures { result ≡ covers_at p number areas.now }
+{
+    match areas.get(&number) {
+        Some(rect) => rect.covers(p),
+        None => false,
+    }
+}
+
+// The first of the numbers whose area covers the point.
+fn first_covering(areas: &Paged<u64, Rect>, numbers: &Numbers, p: Point) -> Option<u64>
+    ensures first { result ≡ option_map (λ e. e.0) (find (λ e. covers_at p e.0 areas.now) numbers.now) }
+    ensures ordered { IsOrdered nat_cmp numbers.now }
+{
+    let _len = numbers.len();
+    for (number, _) in numbers.range(Bound::Unbounded) {
+        if covers_point(areas, number, p) {
+            return Some(number);
+        }
+    }
+    None
+}
+
+// The least of the numbers in the cell whose area covers the point.
+fn least_in(areas: &Paged<u64, Rect>, cells: &Cells, cell: &Cell, p: Point) -> Option<u64>
+    ensures sound { IfSome result (λ n. covers_at p n areas.now ≡ true) }
+    ensures least { (n : ℕ) → is_in cell.now n cells.now ≡ true → covers_at p n areas.now ≡ true → IsAtMost result n }
+{
+    match cells.get(cell) {
+        Some(numbers) => first_covering(areas, numbers, p),
+        None => None,
+    }
+}
+
+fn lesser(a: Option<u64>, b: Option<u64>) -> Option<u64>
+    ensures { result ≡ lesser_of a b }
+{
+    match (a, b) {
+        (Some(m), Some(n)) => Some(m.min(n)),
+        (Some(m), None) => Some(m),
+        (None, other) => other,
+    }
+}
+
+/// The least of the numbers in the point's cells whose area covers the point.
+pub(crate) fn least_over(
+    areas: &Paged<u64, Rect>,
+    cells: &Cells,
+    levels: u32,
+    p: Point,
+) -> Option<u64>
+    requires { levels ≤ 20 }
+    ensures sound { IfSome result (λ n. covers_at p n areas.now ≡ true) }
+    ensures least { (level : ℕ) → (n : ℕ) → level < levels → is_in (cell_at level p) n cells.now ≡ true → covers_at p n areas.now ≡ true → IsAtMost result n }
+{
+    let mut least = None;
+    for level in 0..levels {
+        let found = least_in(areas, cells, &cell_of(level, p), p);
+        least = lesser(least, found);
+    }
+    least
+}
