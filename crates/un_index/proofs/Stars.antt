@@ -7,9 +7,8 @@ use Rattle.std.specs.Map.{remove_entry}
 use Rattle.std.specs.BTreeMap.{is_at, insert_entry}
 use denote.Ref.{Bor}
 use Rattle.un_geom.specs.declared.point.Point.{Point}
-use Rattle.un_geom.specs.Rectangle.{Rectangle}
 use Rattle.un_geom.specs.Places.{point_cmp, same_point}
-use Rattle.un_points.specs.PointMaps.{value_at, covered, covered_past}
+use Rattle.un_points.specs.PointMaps.{value_at}
 use Rattle.un_defs.specs.declared.star.Star.{Star}
 use Rattle.un_defs.specs.declared.star.TopoError.{TopoError}
 use Rattle.un_defs.specs.Star.{empty_star}
@@ -91,12 +90,12 @@ kept_after (Err e) old new after was is ok err = subst AreStars (sym err) was
 
 -- ---- errors, one star after another
 
-module _ (r : Rectangle) (m : List (Point × Star)) (after : Option Point) (e : Point × Star) (rest : covered_past r after m ≡ e ∷ covered_past r (Some e.0) m) where
-  pub more_errors : (got more : List (Point × TopoError)) → got ++ flat_map errors_of (covered_past r after m) ≡ flat_map errors_of (covered r m) → more ≡ got ++ errors_of e → more ++ flat_map errors_of (covered_past r (Some e.0) m) ≡ flat_map errors_of (covered r m)
-  more_errors got more h at_end =
-      ap (λ l. l ++ flat_map errors_of (covered_past r (Some e.0) m)) at_end
-      ∙ append_assoc got (errors_of e) (flat_map errors_of (covered_past r (Some e.0) m))
-      ∙ ap (λ l. got ++ flat_map errors_of l) (sym rest) ∙ h
+module _ (rest left : List (Point × Star)) (e : Point × Star) (steps : rest ≡ e ∷ left) where
+  pub more_errors : (all got more : List (Point × TopoError)) → got ++ flat_map errors_of rest ≡ all → more ≡ got ++ errors_of e → more ++ flat_map errors_of left ≡ all
+  more_errors all got more h at_end =
+      ap (λ l. l ++ flat_map errors_of left) at_end
+      ∙ append_assoc got (errors_of e) (flat_map errors_of left)
+      ∙ ap (λ l. got ++ flat_map errors_of l) (sym steps) ∙ h
 
 -- one element more of a list that is added by mapping
 taken_more : {A B : Type 0} (f : A → B) (xs : List A) (i : ℕ) (x : A) → i < length xs → x ≡ get_or xs i x → map f (take (suc i) xs) ≡ map f (take i xs) ++ f x ∷ []

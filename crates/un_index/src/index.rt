@@ -128,10 +128,8 @@ fn errors_under(
     ensures { IfOk result (λ errors. errors.items ≡ flat_map errors_of (covered extent.now stars.now)) }
 {
     let mut errors = Vec::new(alloc);
-    let mut after = None;
-    while let Some((point, star)) = stars.next_under(extent, after) {
+    for (point, star) in stars.under(extent) {
         add_errors(&mut errors, point, star.errors.as_slice())?;
-        after = Some(point);
     }
     Ok(errors)
 }
