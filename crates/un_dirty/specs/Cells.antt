@@ -1,5 +1,5 @@
 -- Cells of the plane, and the numbers of the areas in them.
-use Rattle.std.specs.Prelude.{◌≡◌, ℕ, ◌-◌, ◌/◌, ◌^◌, ◌<◌, ◌≤◌, min, max, ℤ, pos, neg_ℤ, ◌-ℤ◌, unsigned_abs, Bool, true, false, List, [], Option, None, Some, unwrap_or}
+use Rattle.std.specs.Prelude.{◌≡◌, ◌≢◌, ℕ, ◌-◌, ◌/◌, ◌^◌, ◌<◌, ◌≤◌, min, max, ℤ, pos, neg_ℤ, ◌-ℤ◌, unsigned_abs, Bool, true, false, List, [], Option, None, Some, unwrap_or}
 use Rattle.std.specs.declared.cmp.Ordering.{Ordering}
 use Rattle.std.specs.Ordering.{nat_cmp, ordering_then}
 use Rattle.std.specs.Int.{leading_zeros, w32}
@@ -35,6 +35,14 @@ has_number n numbers = is_some (lookup (is_at (nat_cmp n)) numbers)
 -- the number is in the cell
 abbrev pub is_in : Cell → ℕ → CellMap → Bool
 is_in k n cells = has_number n (numbers_in k cells)
+
+-- each number stays in its cells
+abbrev pub Keeps : CellMap → CellMap → Type 0
+Keeps old new = (k : Cell) → (n : ℕ) → is_in k n old ≡ true → is_in k n new ≡ true
+
+-- each number but one stays in its cells
+abbrev pub KeepsOthers : ℕ → CellMap → CellMap → Type 0
+KeepsOthers area old new = (k : Cell) → (n : ℕ) → n ≢ area → is_in k n old ≡ true → is_in k n new ≡ true
 
 -- the level of a rectangle: the least one whose cells are longer than its longer side, and at most 19
 unfoldable pub level_of : Rectangle → ℕ

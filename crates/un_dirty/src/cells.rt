@@ -16,7 +16,7 @@ ghost use Rattle.un_geom.specs.Rectangle.{IsBounded};
 ghost use Rattle.un_geom.specs.Places.{covers};
 ghost use Rattle.un_pages.specs.Pairs.{IsOrdered};
 ghost use Rattle.un_dirty.specs.declared.cells.Cell.{Cell};
-ghost use Rattle.un_dirty.specs.Cells.{numbers_in, is_in, level_of, cell_index, cell_at, covers_at, lesser_of, IsAtMost, IsShown};
+ghost use Rattle.un_dirty.specs.Cells.{numbers_in, is_in, level_of, cell_index, cell_at, covers_at, lesser_of, IsAtMost, IsShown, Keeps, KeepsOthers};
 
 use std::alloc::Global;
 use std::ops::Bound;
@@ -120,7 +120,7 @@ fn numbers_of(cells: &Cells, cell: &Cell) -> Result<Numbers, Memory>
 // Puts the number of an area into a cell.
 fn put(cells: &mut Cells, alloc: Global, cell: Cell, area: u64) -> Result<(), Memory>
     ensures here { OnOk result (is_in cell area cells.new ≡ true) }
-    ensures kept { OnOk result ((k : Cell) → (n : ℕ) → is_in k n cells.old ≡ true → is_in k n cells.new ≡ true) }
+    ensures kept { OnOk result (Keeps cells.old cells.new) }
 {
     let numbers = numbers_of(cells, &cell)?;
     let more = numbers.with(alloc, area, ())?;
@@ -138,7 +138,7 @@ fn put_row(
 ) -> Result<(), Memory>
     requires { last < 1_048_576 }
     ensures all { OnOk result ((k : Cell) → k.level ≡ first.level → first.column ≤ k.column → k.column ≤ last → k.row ≡ first.row → is_in k area cells.new ≡ true) }
-    ensures kept { OnOk result ((k : Cell) → (n : ℕ) → is_in k n cells.old ≡ true → is_in k n cells.new ≡ true) }
+    ensures kept { OnOk result (Keeps cells.old cells.new) }
 {
     for column in first.column..last + 1 {
         put(
@@ -166,7 +166,7 @@ fn put_block(
     requires column { high.column < 1_048_576 }
     requires row { high.row < 1_048_576 }
     ensures all { OnOk result ((k : Cell) → k.level ≡ low.level → low.column ≤ k.column → k.column ≤ high.column → low.row ≤ k.row → k.row ≤ high.row → is_in k area cells.new ≡ true) }
-    ensures kept { OnOk result ((k : Cell) → (n : ℕ) → is_in k n cells.old ≡ true → is_in k n cells.new ≡ true) }
+    ensures kept { OnOk result (Keeps cells.old cells.new) }
 {
     for row in low.row..high.row + 1 {
         put_row(
@@ -187,7 +187,7 @@ fn put_block(
 // Puts the number of an area into the cells in which it lies.
 fn put_area(cells: &mut Cells, alloc: Global, rect: &Rect, area: u64) -> Result<(), Memory>
     ensures all { OnOk result ((p : Point) → covers rect.now p ≡ true → is_in (cell_at (level_of rect.now) p) area cells.new ≡ true) }
-    ensures kept { OnOk result ((k : Cell) → (n : ℕ) → is_in k n cells.old ≡ true → is_in k n cells.new ≡ true) }
+    ensures kept { OnOk result (Keeps cells.old cells.new) }
 {
     let level = level(rect);
     let low = low_cell(level, rect);
@@ -208,7 +208,7 @@ pub(crate) fn with_areas(
     requires room { first + length rects.now < 2 ^ 64 }
     ensures few { IfOk result (λ r. r.1 ≤ 20) }
     ensures rising { IfOk result (λ r. levels ≤ r.1) }
-    ensures kept { IfOk result (λ r. (k : Cell) → (n : ℕ) → is_in k n cells.now ≡ true → is_in k n r.0 ≡ true) }
+    ensures kept { IfOk result (λ r. Keeps cells.now r.0) }
     ensures each { IfOk result (λ r. AllByRecursion (IsShown r.0 r.1) (enumerate_from first rects.now)) }
 {
     let mut all = cells.share()?;
@@ -225,7 +225,7 @@ pub(crate) fn with_areas(
 
 // Takes the number of an area out of a cell.
 fn take(cells: &mut Cells, alloc: Global, cell: Cell, area: u64) -> Result<(), Memory>
-    ensures { OnOk result ((k : Cell) → (n : ℕ) → n ≢ area → is_in k n cells.old ≡ true → is_in k n cells.new ≡ true) }
+    ensures { OnOk result (KeepsOthers area cells.old cells.new) }
 {
     let numbers = numbers_of(cells, &cell)?;
     let left = numbers.without(alloc, &area)?;
@@ -246,7 +246,7 @@ fn take_row(
     area: u64,
 ) -> Result<(), Memory>
     requires { last < 1_048_576 }
-    ensures { OnOk result ((k : Cell) → (n : ℕ) → n ≢ area → is_in k n cells.old ≡ true → is_in k n cells.new ≡ true) }
+    ensures { OnOk result (KeepsOthers area cells.old cells.new) }
 {
     for column in first.column..last + 1 {
         take(
@@ -265,7 +265,7 @@ fn take_row(
 
 // Takes the number of an area out of the cells in which it lies.
 fn take_area(cells: &mut Cells, alloc: Global, rect: &Rect, area: u64) -> Result<(), Memory>
-    ensures { OnOk result ((k : Cell) → (n : ℕ) → n ≢ area → is_in k n cells.old ≡ true → is_in k n cells.new ≡ true) }
+    ensures { OnOk result (KeepsOthers area cells.old cells.new) }
 {
     let level = level(rect);
     let low = low_cell(level, rect);
