@@ -44,6 +44,18 @@ Keeps old new = (k : Cell) → (n : ℕ) → is_in k n old ≡ true → is_in k 
 abbrev pub KeepsOthers : ℕ → CellMap → CellMap → Type 0
 KeepsOthers area old new = (k : Cell) → (n : ℕ) → n ≢ area → is_in k n old ≡ true → is_in k n new ≡ true
 
+-- each number but those of some areas stays in its cells
+abbrev pub KeepsBut : List (ℕ × Rectangle) → CellMap → CellMap → Type 0
+KeepsBut gone old new = (k : Cell) → (n : ℕ) → AllByRecursion (λ a. n ≢ a.0) gone → is_in k n old ≡ true → is_in k n new ≡ true
+
+-- the number is in each cell of a row, from one cell to a column
+abbrev pub FillsRow : ℕ → Cell → ℕ → CellMap → Type 0
+FillsRow area first last cells = (k : Cell) → k.level ≡ first.level → first.column ≤ k.column → k.column ≤ last → k.row ≡ first.row → is_in k area cells ≡ true
+
+-- the number is in each cell from one corner to the other
+abbrev pub FillsBlock : ℕ → Cell → Cell → CellMap → Type 0
+FillsBlock area low high cells = (k : Cell) → k.level ≡ low.level → low.column ≤ k.column → k.column ≤ high.column → low.row ≤ k.row → k.row ≤ high.row → is_in k area cells ≡ true
+
 -- the level of a rectangle: the least one whose cells are longer than its longer side, and at most 19
 unfoldable pub level_of : Rectangle → ℕ
 level_of r = min (32 - leading_zeros w32 (max (unsigned_abs (r.x1 -ℤ r.x0)) (unsigned_abs (r.y1 -ℤ r.y0)) / 4096)) 19
@@ -74,6 +86,18 @@ lesser_of (Some m) (Some n) = Some (min m n)
 abbrev pub IsAtMost : Option ℕ → ℕ → Type 0
 IsAtMost None n = ⊥
 IsAtMost (Some m) n = m ≤ n
+
+-- the number is in the cell, of the rectangle's level, of each point that the rectangle covers
+abbrev pub FillsCells : ℕ → Rectangle → CellMap → Type 0
+FillsCells area r cells = (p : Point) → covers r p ≡ true → is_in (cell_at (level_of r) p) area cells ≡ true
+
+-- no number in the cell whose area covers the point is less
+abbrev pub IsLeastIn : Cell → Point → List (ℕ × Rectangle) → CellMap → Option ℕ → Type 0
+IsLeastIn k p areas cells r = (n : ℕ) → is_in k n cells ≡ true → covers_at p n areas ≡ true → IsAtMost r n
+
+-- no number in the point's cells of so many levels whose area covers the point is less
+abbrev pub IsLeastOver : ℕ → Point → List (ℕ × Rectangle) → CellMap → Option ℕ → Type 0
+IsLeastOver levels p areas cells r = (level : ℕ) → (n : ℕ) → level < levels → is_in (cell_at level p) n cells ≡ true → covers_at p n areas ≡ true → IsAtMost r n
 
 -- the number of an area is in the cell, of the area's level, of each point that the area covers
 pub record IsShown (cells : CellMap) (levels : ℕ) (a : ℕ × Rectangle) : Type 0 where

@@ -16,7 +16,7 @@ ghost use Rattle.un_geom.specs.Rectangle.{IsBounded};
 ghost use Rattle.un_geom.specs.Places.{covers};
 ghost use Rattle.un_pages.specs.Pairs.{IsOrdered};
 ghost use Rattle.un_dirty.specs.declared.cells.Cell.{Cell};
-ghost use Rattle.un_dirty.specs.Cells.{numbers_in, is_in, level_of, cell_index, cell_at, covers_at, lesser_of, IsAtMost, IsShown, Keeps, KeepsOthers};
+ghost use Rattle.un_dirty.specs.Cells.{numbers_in, is_in, level_of, cell_index, cell_at, covers_at, lesser_of, IsLeastIn, IsLeastOver, IsShown, FillsRow, FillsBlock, FillsCells, Keeps, KeepsOthers, KeepsBut};
 
 use std::alloc::Global;
 use std::ops::Bound;
@@ -137,7 +137,7 @@ fn put_row(
     area: u64,
 ) -> Result<(), Memory>
     requires { last < 1_048_576 }
-    ensures all { OnOk result ((k : Cell) → k.level ≡ first.level → first.column ≤ k.column → k.column ≤ last → k.row ≡ first.row → is_in k area cells.new ≡ true) }
+    ensures all { OnOk result (FillsRow area first last cells.new) }
     ensures kept { OnOk result (Keeps cells.old cells.new) }
 {
     for column in first.column..last + 1 {
@@ -165,7 +165,7 @@ fn put_block(
 ) -> Result<(), Memory>
     requires column { high.column < 1_048_576 }
     requires row { high.row < 1_048_576 }
-    ensures all { OnOk result ((k : Cell) → k.level ≡ low.level → low.column ≤ k.column → k.column ≤ high.column → low.row ≤ k.row → k.row ≤ high.row → is_in k area cells.new ≡ true) }
+    ensures all { OnOk result (FillsBlock area low high cells.new) }
     ensures kept { OnOk result (Keeps cells.old cells.new) }
 {
     for row in low.row..high.row + 1 {
@@ -186,7 +186,7 @@ fn put_block(
 
 // Puts the number of an area into the cells in which it lies.
 fn put_area(cells: &mut Cells, alloc: Global, rect: &Rect, area: u64) -> Result<(), Memory>
-    ensures all { OnOk result ((p : Point) → covers rect.now p ≡ true → is_in (cell_at (level_of rect.now) p) area cells.new ≡ true) }
+    ensures all { OnOk result (FillsCells area rect.now cells.new) }
     ensures kept { OnOk result (Keeps cells.old cells.new) }
 {
     let level = level(rect);
@@ -292,7 +292,7 @@ pub(crate) fn without_areas(
     alloc: Global,
     gone: &[(u64, Rect)],
 ) -> Result<Cells, Memory>
-    ensures { IfOk result (λ r. (k : Cell) → (n : ℕ) → AllByRecursion (λ a. n ≢ a.0) gone.now → is_in k n cells.now ≡ true → is_in k n r ≡ true) }
+    ensures { IfOk result (λ r. KeepsBut gone.now cells.now r) }
 {
     let mut left = cells.share()?;
     for area in gone {
@@ -327,7 +327,7 @@ fn first_covering(areas: &Paged<u64, Rect>, numbers: &Numbers, p: Point) -> Opti
 // The least of the numbers in the cell whose area covers the point.
 fn least_in(areas: &Paged<u64, Rect>, cells: &Cells, cell: &Cell, p: Point) -> Option<u64>
     ensures sound { IfSome result (λ n. covers_at p n areas.now ≡ true) }
-    ensures least { (n : ℕ) → is_in cell.now n cells.now ≡ true → covers_at p n areas.now ≡ true → IsAtMost result n }
+    ensures least { IsLeastIn cell.now p areas.now cells.now result }
 {
     match cells.get(cell) {
         Some(numbers) => first_covering(areas, numbers, p),
@@ -354,7 +354,7 @@ pub(crate) fn least_over(
 ) -> Option<u64>
     requires { levels ≤ 20 }
     ensures sound { IfSome result (λ n. covers_at p n areas.now ≡ true) }
-    ensures least { (level : ℕ) → (n : ℕ) → level < levels → is_in (cell_at level p) n cells.now ≡ true → covers_at p n areas.now ≡ true → IsAtMost result n }
+    ensures least { IsLeastOver levels p areas.now cells.now result }
 {
     let mut least = None;
     for level in 0..levels {
