@@ -1,3 +1,4 @@
 pub mod Words
 pub mod Batches
 pub mod Groups
+pub mod Replies

@@ -1,5 +1,6 @@
 -- What is known of a command's reply, so that it fits in the room that is kept for it.
-use Rattle.std.specs.Prelude.{ℕ, ◌+◌, ◌*◌, ◌≤◌, length, ⊤}
+pub use Rattle.un_ask.specs.Replies.{IsOfCommand, HasFewIds}
+use Rattle.std.specs.Prelude.{ℕ, ◌+◌, ◌*◌, length, ⊤}
 use Rattle.un_schema.specs.Names.{IsName}
 use Rattle.un_defs.specs.declared.refusal.Refusal.{Refusal}
 use Rattle.un_defs.specs.declared.refusal.Refusal.TheVariants as refusal
@@ -17,21 +18,6 @@ HasName other = ⊤
 abbrev pub HasRefusalName : Reply → Type 0
 HasRefusalName (reply.Refused refusal edit version) = HasName refusal
 HasRefusalName other = ⊤
-
--- the reply is one of a command, accepted or refused
-abbrev pub IsOfCommand : Reply → Type 0
-IsOfCommand (reply.Edited areas id word version) = ⊤
-IsOfCommand (reply.Batch areas ids version) = ⊤
-IsOfCommand (reply.Ruled areas rules version) = ⊤
-IsOfCommand (reply.Validated cleared errors version) = ⊤
-IsOfCommand (reply.Updated row version) = ⊤
-IsOfCommand (reply.Refused refusal edit version) = ⊤
-IsOfCommand other = ⊥
-
--- a batch has at most 256 edits
-abbrev pub HasFewIds : Reply → Type 0
-HasFewIds (reply.Batch areas ids version) = length ids ≤ 256
-HasFewIds other = ⊤
 
 -- room that is enough for a command's reply
 abbrev pub command_room : Reply → ℕ

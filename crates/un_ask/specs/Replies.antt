@@ -1,0 +1,26 @@
+-- The replies of commands.
+use Rattle.std.specs.Prelude.{◌≤◌, length, ⊤}
+use Rattle.un_ask.specs.declared.request.Command.{Command}
+use Rattle.un_ask.specs.declared.request.Command.TheVariants.{Batch}
+use Rattle.un_ask.specs.declared.reply.Reply.{Reply}
+use Rattle.un_ask.specs.declared.reply.Reply.TheVariants as reply
+
+-- the reply is one of a command, accepted or refused
+abbrev pub IsOfCommand : Reply → Type 0
+IsOfCommand (reply.Edited areas id word version) = ⊤
+IsOfCommand (reply.Batch areas ids version) = ⊤
+IsOfCommand (reply.Ruled areas rules version) = ⊤
+IsOfCommand (reply.Validated cleared errors version) = ⊤
+IsOfCommand (reply.Updated row version) = ⊤
+IsOfCommand (reply.Refused refusal edit version) = ⊤
+IsOfCommand other = ⊥
+
+-- a batch has at most 256 edits
+abbrev pub HasFewIds : Reply → Type 0
+HasFewIds (reply.Batch areas ids version) = length ids ≤ 256
+HasFewIds other = ⊤
+
+-- a batch that is asked for has at most 256 edits
+abbrev pub HasFewEdits : Command → Type 0
+HasFewEdits (Batch edits) = length edits ≤ 256
+HasFewEdits other = ⊤
