@@ -42,7 +42,7 @@ pub unmapped : {A : Type 0} (f : A → Refusal) (o : Option A) → option_map f 
 unmapped f None e = refl
 unmapped f (Some x) e = let none : Some (f x) ≡ None = e in cc
 
-fails : (b : Bool) (r : Refusal) → due_if b r ≡ None → b ≡ false
+pub fails : (b : Bool) (r : Refusal) → due_if b r ≡ None → b ≡ false
 fails true r e = let none : Some r ≡ None = e in cc
 fails false r e = refl
 

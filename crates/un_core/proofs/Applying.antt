@@ -1,7 +1,7 @@
--- What a command that is accepted leaves, and what is replied to it.
-use Rattle.std.proofs.Common.{◌≡◌, ℕ, ◌+◌, ◌-◌, List, length, Some, None, refl, sym, ap, ◌∙◌, arith}
+-- What a step gives, by whether its command is known and what is due of it.
+use Rattle.std.proofs.Common.{◌≡◌, ℕ, ◌+◌, ◌-◌, Bool, true, false, true≢false, List, [], ◌∷◌, length, Option, Some, None, inl, inr, refl, sym, ap, ◌∙◌, arith}
+use Rattle.std.specs.Prelude.{not}
 use Rattle.std.specs.Option.{option_map_or}
-use Rattle.std.proofs.lemmas.Option.{same_Some}
 use Rattle.un_geom.specs.Rectangle.{Rectangle}
 use Rattle.un_schema.specs.declared.place.Place.TheVariants as place
 use Rattle.un_defs.specs.declared.edit.Edit.{Edit}
@@ -9,83 +9,104 @@ use Rattle.un_defs.specs.declared.edit.Edit.TheVariants as edit
 use Rattle.un_defs.specs.declared.refusal.Refusal.{Refusal}
 use Rattle.un_defs.specs.declared.refusal.Refusal.TheVariants as refusal
 use Rattle.un_defs.specs.Stain.{stain}
+use Rattle.un_store.specs.Refusals.{first_due, due_if}
 use Rattle.un_ask.specs.declared.word.EditWord.{EditWord}
-use Rattle.un_ask.specs.declared.word.EditWord.TheVariants as word
+use Rattle.un_ask.specs.declared.request.Command.{Command}
 use Rattle.un_ask.specs.declared.request.Command.TheVariants as command
 use Rattle.un_ask.specs.declared.reply.Reply.TheVariants as reply
-use Rattle.un_store.specs.Words.{IsRowEdit}
 use Rattle.un_core.specs.State.{State}
-use Rattle.un_core.specs.Step.{edits, validates, id_of, edited}
+use Rattle.un_core.specs.Step.{id_of, ids_of_all, stain_of_batch, edited, batched, next_state, stain_of}
 use Rattle.un_core.specs.Validation.{met, errors_under, validated}
-use Rattle.un_core.specs.Cover.{MayHappen}
-use Rattle.un_core.specs.Refusals.{edit_due, numbers_due}
-use Rattle.un_core.specs.RowEdits.{row_word, feature_of}
-use Rattle.un_core.specs.Commands.{event_of_edit, told_edit, edit_reply, after_event, reply_to, accepted, refused, first_and_count, IsApplied}
-use Rattle.un_core.specs.declared.apply.Applied.TheVariants as applied
+use Rattle.un_core.specs.Refusals.{edit_due, batch_due, refused_place, numbers_due}
+use Rattle.un_core.specs.RowEdits.{is_row_edit}
+use Rattle.un_core.specs.Commands.{is_known, known_due, first_refusal, refusal_reply, refused_edit, accepted, step, word_of, areas_of_edit, edit_reply, first_and_count, refused}
 
--- an edit that has a word of rows
-abbrev IsRowEditBy : State → Edit → EditWord → Type 0
-IsRowEditBy s e w = IsRowEdit e × (event_of_edit e ≡ Some (edits e)) × (edit_reply s e ≡ told_edit s e w) × (id_of s e ≡ feature_of s.next_feature e)
+some_none : {A : Type 0} {x : A} → Some x ≡ None → ⊥
+some_none e = cc
 
-none_some : (w : EditWord) → None ≡ Some w → ⊥
-none_some w e = cc
+-- ---- the step
 
-some_none : (w : EditWord) → Some w ≡ None → ⊥
-some_none w e = cc
+module _ (s : State) (c : Command) where
+  by_first : (d : Option Refusal) → first_refusal s c ≡ d
+      → step s c ≡ option_map_or (λ r. inr (refusal_reply s c r)) d (inl (next_state s c, (accepted s c, stain_of s c)))
+  by_first d is = ap (λ d. option_map_or (λ r. inr (refusal_reply s c r)) d (inl (next_state s c, (accepted s c, stain_of s c)))) is
 
-pub by_word : (s : State) (e : Edit) (w : EditWord) → row_word e ≡ Some w → IsRowEditBy s e w
-by_word s (edit.Insert kind points attrs flow ends note) w is = (tt, refl, ap (told_edit s (edit.Insert kind points attrs flow ends note)) (same_Some word.Insert w is), refl)
-by_word s (edit.Reshape id base points) w is = (tt, refl, ap (told_edit s (edit.Reshape id base points)) (same_Some word.Reshape w is), refl)
-by_word s (edit.Attrs id base attrs) w is = (tt, refl, ap (told_edit s (edit.Attrs id base attrs)) (same_Some word.Attrs w is), refl)
-by_word s (edit.Kind id base kind) w is = (tt, refl, ap (told_edit s (edit.Kind id base kind)) (same_Some word.Kind w is), refl)
-by_word s (edit.Path id base path) w is = (tt, refl, ap (told_edit s (edit.Path id base path)) (same_Some word.Path w is), refl)
-by_word s (edit.Flow id base flow) w is = (tt, refl, ap (told_edit s (edit.Flow id base flow)) (same_Some word.Flow w is), refl)
-by_word s (edit.Ends id base ends) w is = (tt, refl, ap (told_edit s (edit.Ends id base ends)) (same_Some word.Ends w is), refl)
-by_word s (edit.Note id base note) w is = (tt, refl, ap (told_edit s (edit.Note id base note)) (same_Some word.Note w is), refl)
-by_word s (edit.Delete id base) w is = (tt, refl, ap (told_edit s (edit.Delete id base)) (same_Some word.Delete w is), refl)
-by_word s _ w is = absurd (none_some w is)
+  first_is : (b : Bool) (d : Option Refusal) → is_known c ≡ b → known_due s c ≡ d → first_refusal s c ≡ first_due (due_if (not b) (refusal.BadRequest place.Do) ∷ d ∷ [])
+  first_is b d known due = λ i. first_due (due_if (not (known i)) (refusal.BadRequest place.Do) ∷ due i ∷ [])
 
--- any other may not be asked for yet
-not_asked : (e : Edit) → row_word e ≡ None → event_of_edit e ≡ None
-not_asked (edit.Insert kind points attrs flow ends note) none = absurd (some_none word.Insert none)
-not_asked (edit.Reshape id base points) none = absurd (some_none word.Reshape none)
-not_asked (edit.Attrs id base attrs) none = absurd (some_none word.Attrs none)
-not_asked (edit.Kind id base kind) none = absurd (some_none word.Kind none)
-not_asked (edit.Path id base path) none = absurd (some_none word.Path none)
-not_asked (edit.Flow id base flow) none = absurd (some_none word.Flow none)
-not_asked (edit.Ends id base ends) none = absurd (some_none word.Ends none)
-not_asked (edit.Note id base note) none = absurd (some_none word.Note none)
-not_asked (edit.Delete id base) none = absurd (some_none word.Delete none)
-not_asked _ none = refl
+  pub step_done : is_known c ≡ true → known_due s c ≡ None → step s c ≡ inl (next_state s c, (accepted s c, stain_of s c))
+  step_done known none = by_first None (first_is true None known none)
 
-pub edit_applied : (s : State) (e : Edit) (w : EditWord) → row_word e ≡ Some w → (net : State) → net ≡ edited s e → edit_due s e ≡ None → MayHappen s (edits e)
-    → (areas : List ℕ) (id version : ℕ) → areas ≡ first_and_count s.next_area (length (stain s.features e)) → id ≡ feature_of s.next_feature e → version ≡ s.version + 1
-    → IsApplied s (command.Edit e) (applied.Done net (reply.Edited areas id w version))
-edit_applied s e w is net state due may areas id version areas_are id_is version_is =
-    let row = by_word s e w is in (
-      state ∙ sym (ap (after_event s) row.1 ∙ ap (λ d. option_map_or (λ r. s) d (edited s e)) due),
-      (λ i. reply.Edited (areas_are i) ((id_is ∙ sym row.3) i) w (version_is i)) ∙ sym (ap (reply_to s) row.1 ∙ ap (λ d. option_map_or (refused s) d (accepted s (edits e))) due ∙ row.2),
-      (edits e, row.1, due, may),
-    )
+  pub step_refused : (r : Refusal) → is_known c ≡ true → known_due s c ≡ Some r → step s c ≡ inr (refusal_reply s c r)
+  step_refused r known due = by_first (Some r) (first_is true (Some r) known due)
 
-pub edit_refused : (s : State) (e : Edit) (w : EditWord) → row_word e ≡ Some w → (r : Refusal) → edit_due s e ≡ Some r → IsApplied s (command.Edit e) (applied.Refused (refused s r))
-edit_refused s e w is r due =
-    let event = (by_word s e w is).1 in (
-      ap (after_event s) event ∙ ap (λ d. option_map_or (λ r. s) d (edited s e)) due,
-      sym (ap (reply_to s) event ∙ ap (λ d. option_map_or (refused s) d (accepted s (edits e))) due),
-    )
+  refused_whole : is_known c ≡ false → refused_edit s c ≡ None
+  refused_whole unknown_c = go c unknown_c
+    where
+      go : (c : Command) → is_known c ≡ false → refused_edit s c ≡ None
+      go (command.Batch es) not_known = λ i. option_map_or (λ r. None) (due_if (not (not_known i)) (refusal.BadRequest place.Do)) (refused_place s es)
+      go _ not_known = refl
 
-pub edit_not_yet : (s : State) (e : Edit) → row_word e ≡ None → IsApplied s (command.Edit e) (applied.Refused (refused s (refusal.BadRequest place.Do)))
-edit_not_yet s e none = (ap (after_event s) (not_asked e none), sym (ap (reply_to s) (not_asked e none)))
+  pub step_unknown : is_known c ≡ false → step s c ≡ inr (refused s (refusal.BadRequest place.Do))
+  step_unknown not_known =
+      by_first (Some (refusal.BadRequest place.Do)) (first_is false (known_due s c) not_known refl)
+      ∙ ap (λ at. inr (reply.Refused (refusal.BadRequest place.Do) at s.version)) (refused_whole not_known)
 
-pub validation_applied : (s : State) (extent : Rectangle) (net : State) → net ≡ validated s extent → numbers_due s ≡ None
-    → (cleared errors version : ℕ) → cleared ≡ length (met extent s.areas) → errors ≡ errors_under s (met extent s.areas) → version ≡ s.version + 1
-    → IsApplied s (command.Validate extent) (applied.Done net (reply.Validated cleared errors version))
-validation_applied s extent net state due cleared errors version cleared_are errors_are version_is = (
-  state ∙ sym (ap (λ d. option_map_or (λ r. s) d (validated s extent)) due),
-  (λ i. reply.Validated (cleared_are i) (errors_are i) (version_is i)) ∙ sym (ap (λ d. option_map_or (refused s) d (accepted s (validates extent))) due),
-  (validates extent, refl, due, tt),
-)
+-- ---- edits
+
+-- an edit of a row has a word
+pub has_word : (e : Edit) → is_row_edit e ≡ true → word_of e ≡ None → ⊥
+has_word (edit.Insert kind points attrs flow ends note) known none = some_none none
+has_word (edit.Reshape id base points) known none = some_none none
+has_word (edit.Attrs id base attrs) known none = some_none none
+has_word (edit.Kind id base kind) known none = some_none none
+has_word (edit.Path id base path) known none = some_none none
+has_word (edit.Flow id base flow) known none = some_none none
+has_word (edit.Ends id base ends) known none = some_none none
+has_word (edit.Note id base note) known none = some_none none
+has_word (edit.Delete id base) known none = some_none none
+has_word _ known none = true≢false (sym known)
+
+pub edit_done : (s : State) (e : Edit) (w : EditWord) → is_row_edit e ≡ true → word_of e ≡ Some w → (next : State) → next ≡ edited s e → edit_due s e ≡ None
+    → (areas : List ℕ) (id version : ℕ) (mark : List Rectangle) → areas ≡ areas_of_edit s e → id ≡ id_of s e → version ≡ s.version + 1 → mark ≡ stain s.features e
+    → inl (next, (reply.Edited areas id w version, mark)) ≡ step s (command.Edit e)
+edit_done s e w known word next next_is due areas id version mark areas_are id_is version_is mark_is =
+    let replied : reply.Edited areas id w version ≡ edit_reply s e =
+    (λ i. reply.Edited (areas_are i) (id_is i) w (version_is i))
+    ∙ ap (λ o. option_map_or (λ w. reply.Edited (areas_of_edit s e) (id_of s e) w (s.version + 1)) o (reply.Ruled (areas_of_edit s e) (length s.features.rules + 1) (s.version + 1))) (sym word) in
+    (λ i. inl (next_is i, (replied i, mark_is i))) ∙ sym (step_done s (command.Edit e) known due)
+
+pub edit_refused : (s : State) (e : Edit) → is_row_edit e ≡ true → (r : Refusal) → edit_due s e ≡ Some r → inr (refused s r) ≡ step s (command.Edit e)
+edit_refused s e known r due = sym (step_refused s (command.Edit e) r known due)
+
+-- ---- batches
+
+pub batch_done : (s : State) (es : List Edit) → is_known (command.Batch es) ≡ true → (next : State) → next ≡ batched s es → batch_due s es ≡ None
+    → (areas ids : List ℕ) (version : ℕ) (mark : List Rectangle)
+    → areas ≡ first_and_count s.next_area (length (stain_of_batch s es)) → ids ≡ ids_of_all s es → version ≡ s.version + 1 → mark ≡ stain_of_batch s es
+    → inl (next, (reply.Batch areas ids version, mark)) ≡ step s (command.Batch es)
+batch_done s es known next next_is due areas ids version mark areas_are ids_are version_is mark_is =
+    (λ i. inl (next_is i, (reply.Batch (areas_are i) (ids_are i) (version_is i), mark_is i))) ∙ sym (step_done s (command.Batch es) known due)
+
+pub batch_refused : (s : State) (es : List Edit) → is_known (command.Batch es) ≡ true → (r : Refusal) → batch_due s es ≡ Some r
+    → inr (reply.Refused r (refused_place s es) s.version) ≡ step s (command.Batch es)
+batch_refused s es known r due =
+    let place : refused_place s es ≡ refused_edit s (command.Batch es) =
+    λ i. option_map_or (λ r. None) (due_if (not (sym known i)) (refusal.BadRequest place.Do)) (refused_place s es) in
+    ap (λ place. inr (reply.Refused r place s.version)) place ∙ sym (step_refused s (command.Batch es) r known due)
+
+-- ---- validations
+
+pub validation_done : (s : State) (extent : Rectangle) (next : State) → next ≡ validated s extent → numbers_due s ≡ None
+    → (cleared errors version : ℕ) (mark : List Rectangle) → cleared ≡ length (met extent s.areas) → errors ≡ errors_under s (met extent s.areas) → version ≡ s.version + 1 → mark ≡ []
+    → inl (next, (reply.Validated cleared errors version, mark)) ≡ step s (command.Validate extent)
+validation_done s extent next next_is due cleared errors version mark cleared_are errors_are version_is mark_is =
+    (λ i. inl (next_is i, (reply.Validated (cleared_are i) (errors_are i) (version_is i), mark_is i))) ∙ sym (step_done s (command.Validate extent) refl due)
+
+pub validation_refused : (s : State) (extent : Rectangle) (r : Refusal) → numbers_due s ≡ Some r → inr (refused s r) ≡ step s (command.Validate extent)
+validation_refused s extent r due = sym (step_refused s (command.Validate extent) r refl due)
+
+-- ---- areas
 
 -- the areas that a state has beyond another, by their count
 pub areas_of : (s t : State) (count : ℕ) (areas : List ℕ) → areas ≡ first_and_count s.next_area (t.next_area - s.next_area) → t.next_area ≡ s.next_area + count

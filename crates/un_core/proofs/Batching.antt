@@ -1,31 +1,37 @@
 -- What a batch of edits of rows leaves, told by its edits one after another.
 use Rattle.std.proofs.Common.{◌≡◌, ℕ, suc, ◌+◌, ◌<◌, List, [], ◌∷◌, ◌++◌, length, get_or, drop, drop-cons, flat_map, All, Some, None, true, false, ◌==◌, refl, sym, ap, subst, ◌∙◌, arith, if◌then◌else◌}
-use Rattle.std.specs.List.{list_any}
-use Rattle.std.specs.Option.{option_map_or}
-use Rattle.std.proofs.lemmas.List.{append_assoc}
-use Rattle.std.proofs.lemmas.List.Elements.{All-map, All-weaker}
+use Rattle.std.specs.List.{list_any, list_all}
+use Rattle.std.specs.Option.{option_map, option_map_or}
+use Rattle.std.proofs.lemmas.List.{append_assoc, length-append}
+use Rattle.std.proofs.lemmas.List.Elements.{All-map, All-weaker, All-nil, All-cons}
 use Rattle.un_geom.specs.declared.point.Point.{Point}
+use Rattle.un_geom.specs.Rectangle.{Rectangle}
 use Rattle.un_schema.specs.Catalog.{Catalog}
 use Rattle.un_defs.specs.declared.port.Port.{Port}
 use Rattle.un_defs.specs.declared.row.Row.{Row}
 use Rattle.un_defs.specs.declared.star.Star.{Star}
 use Rattle.un_defs.specs.declared.edit.Edit.{Edit}
 use Rattle.un_defs.specs.declared.edit.Edit.TheVariants as edit
+use Rattle.un_defs.specs.declared.refusal.Refusal.{Refusal}
 use Rattle.un_defs.specs.Orders.{rising, port_cmp}
 use Rattle.un_defs.specs.Ports.{nodes_of}
 use Rattle.un_defs.specs.Laws.{MayBeMade}
+use Rattle.un_defs.specs.Stain.{stain}
+use Rattle.un_defs.proofs.LinkCases.{both_true}
 use Rattle.un_store.specs.Words.{IsRowEdit}
 use Rattle.un_store.specs.Edits.{at_moment, settled}
 use Rattle.un_store.specs.Refusals.{first_due}
 use Rattle.un_dirty.specs.Areas.{DirtyList}
 use Rattle.un_grid.specs.Grids.{IsGridOf, standing}
 use Rattle.un_core.specs.State.{State}
-use Rattle.un_core.specs.Step.{setting, next_with, made_at, made_by_all, id_of, ids_of_all, touched, touched_by_all, settled_at, batched}
+use Rattle.un_core.specs.declared.setup.Setup.{Setup}
+use Rattle.un_core.specs.Step.{setting, next_with, made_at, made_by_all, id_of, ids_of_all, touched, touched_by_all, settled_at, stain_of_batch, batched}
 use Rattle.un_core.specs.Cover.{MayAllBeMade}
 use Rattle.un_core.specs.Feature.{HasAttributes, HaveAttributes}
 use Rattle.un_core.specs.Held.{held, features_in}
-use Rattle.un_core.specs.RowEdits.{feature_of}
+use Rattle.un_core.specs.RowEdits.{feature_of, is_row_edit}
 use Rattle.un_core.specs.Refusals.{beside_numbers, first_refused}
+use Rattle.un_core.proofs.Accepted.{row_edit}
 
 -- ---- the ids
 
@@ -66,6 +72,24 @@ touched_all : (s : State) (es : List Edit) → All IsRowEdit es → touched_by_a
 touched_all s [] words = refl
 touched_all s (e ∷ es) words = λ i. touched_is s e (first_word e es words) i ++ touched_all (made_at 0 s e) es (rest_words e es words) i
 
+-- ---- edits of rows
+
+-- a batch that is known has edits of rows alone
+pub all_row_edits : (es : List Edit) → list_all is_row_edit es ≡ true → All IsRowEdit es
+all_row_edits [] known = All-nil IsRowEdit
+all_row_edits (e ∷ es) known =
+    let both = both_true (is_row_edit e) (list_all is_row_edit es) known in
+    All-cons IsRowEdit e es (row_edit e both.0) (all_row_edits es both.1)
+
+-- ---- the areas
+
+-- the numbers go on by as many as there are rectangles
+pub made_areas : (s : State) (es : List Edit) → (made_by_all s es).next_area ≡ s.next_area + length (stain_of_batch s es)
+made_areas s [] = omega arith
+made_areas s (e ∷ es) =
+    let rest : (made_by_all (made_at 0 s e) es).next_area ≡ s.next_area + length (stain s.features e) + length (stain_of_batch (made_at 0 s e) es) = made_areas (made_at 0 s e) es in
+    omega (arith, rest, length-append (stain s.features e) (stain_of_batch (made_at 0 s e) es))
+
 -- ---- a batch under way
 
 -- the edits from a place on begin with the one at the place
@@ -74,30 +98,41 @@ cut_at es place e is inside =
     let next : suc place ≡ place + 1 = omega arith in
     drop-cons es place e inside ∙ (λ i. sym is i ∷ drop (next i) es)
 
--- Once the edits before a place have left a state and told ids, what is left of the batch is made on that state.
-pub record IsUnderWay (s : State) (es : List Edit) (place : ℕ) (t : State) (ids : List ℕ) : Type 0 where
+-- Once the edits before a place have left a state, with these ids and rectangles, what is left of the batch is made on that state.
+pub record IsUnderWay (s : State) (es : List Edit) (place : ℕ) (t : State) (ids : List ℕ) (rects : List Rectangle) : Type 0 where
   pub left : made_by_all s es ≡ made_by_all t (drop place es)
   pub told : ids_of_all s es ≡ ids ++ ids_of_all t (drop place es)
+  pub dirtied : stain_of_batch s es ≡ rects ++ stain_of_batch t (drop place es)
   pub refused : first_refused s 0 es ≡ first_refused t place (drop place es)
   pub may : MayAllBeMade t (drop place es) → MayAllBeMade s es
 
-pub at_first : (s : State) (es : List Edit) → IsUnderWay s es 0 s []
-at_first s es = record { left = refl; told = refl; refused = refl; may = λ may. may }
+pub at_first : (s : State) (es : List Edit) → IsUnderWay s es 0 s [] []
+at_first s es = record { left = refl; told = refl; dirtied = refl; refused = refl; may = λ may. may }
 
-module _ (s : State) (es : List Edit) (place : ℕ) (t : State) (ids : List ℕ) (is : IsUnderWay s es place t ids)
+module _ (s : State) (es : List Edit) (place : ℕ) (t : State) (ids : List ℕ) (rects : List Rectangle) (is : IsUnderWay s es place t ids rects)
     (e : Edit) (cut : drop place es ≡ e ∷ drop (place + 1) es) where
   -- one edit more
   pub one_more : (u : State) (id : ℕ) → u ≡ made_at 0 t e → id ≡ id_of t e → MayBeMade (setting t) (next_with t 0) t.features e → first_due (beside_numbers t e) ≡ None
-      → IsUnderWay s es (place + 1) u (ids ++ id ∷ [])
+      → IsUnderWay s es (place + 1) u (ids ++ id ∷ []) (rects ++ stain t.features e)
   one_more u id u_is id_is may due =
       let rest = drop (place + 1) es in
       record {
         left = is.left ∙ ap (made_by_all t) cut ∙ ap (λ v. made_by_all v rest) (sym u_is);
         told = is.told ∙ ap (λ l. ids ++ ids_of_all t l) cut ∙ (λ i. ids ++ (sym id_is i ∷ ids_of_all (sym u_is i) rest)) ∙ sym (append_assoc ids (id ∷ []) (ids_of_all u rest));
+        dirtied = is.dirtied ∙ ap (λ l. rects ++ stain_of_batch t l) cut ∙ ap (λ v. rects ++ (stain t.features e ++ stain_of_batch v rest)) (sym u_is)
+            ∙ sym (append_assoc rects (stain t.features e) (stain_of_batch u rest));
         refused = is.refused ∙ ap (first_refused t place) cut ∙ ap (λ d. option_map_or (λ r. Some (place, r)) d (first_refused (made_at 0 t e) (place + 1) rest)) due
             ∙ ap (λ v. first_refused v (place + 1) rest) (sym u_is);
         may = λ rest_may. is.may (subst (MayAllBeMade t) (sym cut) (may, subst (λ v. MayAllBeMade v rest) u_is rest_may));
       }
+
+  -- the edit is refused, and the batch with it
+  pub refused_here : (r : Refusal) → first_due (beside_numbers t e) ≡ Some r
+      → (option_map (λ p. p.1) (first_refused s 0 es) ≡ Some r) × (option_map (λ p. p.0) (first_refused s 0 es) ≡ Some place)
+  refused_here r due =
+      let whole : first_refused s 0 es ≡ Some (place, r) =
+      is.refused ∙ ap (first_refused t place) cut ∙ ap (λ d. option_map_or (λ r. Some (place, r)) d (first_refused (made_at 0 t e) (place + 1) (drop (place + 1) es))) due in
+      (ap (option_map (λ p. p.1)) whole, ap (option_map (λ p. p.0)) whole)
 
 -- ---- the moments
 
@@ -125,7 +160,7 @@ settled_has S rows ids moment have = All-map (λ r. HasAttributes S r.attrs) (se
     one r has = elim (list_any (λ id. id == r.id) ids) as (λ b. HasAttributes S (if b then at_moment moment r else r).attrs) [ true ↦ has | false ↦ has ]
 
 -- the state once the moments are settled
-pub batched_is : (s : State) (es : List Edit) → All IsRowEdit es → (S : Catalog) (rows : List Row) (kept : List (Point × Star)) (dirty : DirtyList) (version next moment : ℕ) (ids : List ℕ)
+pub batched_is : (s : State) (es : List Edit) → All IsRowEdit es → (S : Setup) (rows : List Row) (kept : List (Point × Star)) (dirty : DirtyList) (version next moment : ℕ) (ids : List ℕ)
     → held S rows kept dirty version next ≡ made_by_all s es → ids ≡ ids_of_all s es → moment ≡ s.version + 1
     → held S (settled ids moment rows) kept dirty moment next ≡ batched s es
 batched_is s es words S rows kept dirty version next moment ids made told moment_is =

@@ -27,7 +27,7 @@ module _ (s : State) (is : IsState s) (extent : Rectangle) where
   after = rebuilt s (met extent s.areas)
 
   abbrev afresh : Pairs
-  afresh = fresh s.catalog s.features
+  afresh = fresh s.setup.schema s.features
 
   same_stars : (p : Point) → stars_of (kept_by under after) p ≡ stars_of (kept_by under afresh) p
   same_stars p = go (under p) refl
@@ -35,7 +35,7 @@ module _ (s : State) (is : IsState s) (extent : Rectangle) where
       go : (b : Bool) → under p ≡ b → stars_of (kept_by under after) p ≡ stars_of (kept_by under afresh) p
       go true e =
           stars_kept under after p e ∙ rebuilt_under s (met extent s.areas) is.sound (sorted_map s.kept is.sorted) p e
-          ∙ sym (stars_kept under afresh p e ∙ stars_fresh s.catalog s.features is.sound p)
+          ∙ sym (stars_kept under afresh p e ∙ stars_fresh s.setup.schema s.features is.sound p)
       go false e = missing (kept_by under after) p (missing_kept under after p e) ∙ sym (missing (kept_by under afresh) p (missing_kept under afresh p e))
 
   after_told : AreTold (kept_by under after)
@@ -45,8 +45,8 @@ module _ (s : State) (is : IsState s) (extent : Rectangle) where
 
   afresh_told : AreTold (kept_by under afresh)
   afresh_told pair i e =
-      let r = among_from-map (λ p. (p, star s.catalog s.features p)) (standing_points s.features) pair (among_from-filter (λ pair. under pair.0) afresh pair i).0 in
-      told_fresh s.catalog s.features is.sound r.0 r.1 (ap (λ pair. pair.1) r.2 ∙ e)
+      let r = among_from-map (λ p. (p, star s.setup.schema s.features p)) (standing_points s.features) pair (among_from-filter (λ pair. under pair.0) afresh pair i).0 in
+      told_fresh s.setup.schema s.features is.sound r.0 r.1 (ap (λ pair. pair.1) r.2 ∙ e)
 
   -- under the areas the kept stars are those of all features
   same_under : kept_by under after ≡ kept_by under afresh
@@ -54,7 +54,7 @@ module _ (s : State) (is : IsState s) (extent : Rectangle) where
       canonical (kept_by under after) (kept_by under afresh)
       (IsStrictlySortedBy-filter by_point (λ pair. under pair.0) after (rebuilt_sorted s (met extent s.areas)))
       (IsStrictlySortedBy-filter by_point (λ pair. under pair.0) afresh
-      (table_sorted (star s.catalog s.features) (standing_points s.features) (sorted-rising point_total (map (λ n. n.at) (nodes s.features)))))
+      (table_sorted (star s.setup.schema s.features) (standing_points s.features) (sorted-rising point_total (map (λ n. n.at) (nodes s.features)))))
       after_told afresh_told same_stars
 
 pub validation_does : ValidationLaw
@@ -64,7 +64,7 @@ validation_does s extent is = record {
     fresh = λ p e. rebuilt_under s (met extent s.areas) is.sound (sorted_map s.kept is.sorted) p e;
     kept = λ p e. rebuilt_elsewhere s (met extent s.areas) (sorted_map s.kept is.sorted) p e;
     features = refl;
-    schema = refl;
+    setup = refl;
     version = refl;
   };
   tells = ap count_errors (same_under s is extent);

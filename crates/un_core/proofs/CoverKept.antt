@@ -20,11 +20,11 @@ use Rattle.un_defs.proofs.KeepsSound.{keeps_sound}
 use Rattle.un_index.specs.Kept.{stars_of}
 use Rattle.un_core.specs.State.{State, fresh_star}
 use Rattle.un_core.specs.Validation.{met, unmet, is_under, rebuilt}
-use Rattle.un_core.specs.Step.{edits, batches, validates, setting, next_with, next_of, made_at, edited, made_by_all, touched_by_all, settled_at, batched, with_rules}
+use Rattle.un_ask.specs.declared.request.Command.TheVariants as command
+use Rattle.un_core.specs.Step.{setting, next_with, next_of, made_at, edited, made_by_all, touched_by_all, settled_at, batched}
 use Rattle.un_core.specs.Validation.{validated}
 use Rattle.un_core.specs.Cover.{IsState, MayAllBeMade, MayHappen, CoverLaw}
 use Rattle.un_core.proofs.NextIds.{new_after}
-use Rattle.un_core.proofs.Covered.{sound_with, star_with}
 use Rattle.un_core.proofs.LookUps.{sorted_map}
 use Rattle.un_core.proofs.Settled.{settled_state}
 use Rattle.un_core.proofs.Rebuilding.{rebuilt_under, rebuilt_elsewhere, rebuilt_sorted, rebuilt_told}
@@ -46,7 +46,6 @@ same_ids next other F e g new = record { feature = subst (λ n. All (λ r. r.id 
 at_version : (s : State) (version : ℕ) → IsState s → IsState (record s { version = version })
 at_version s version is = record {
   sound = is.sound;
-  rules = is.rules;
   fresh_ids = same_ids (next_of s) (next_of (record s { version = version })) s.features refl refl is.fresh_ids;
   numbered = is.numbered;
   numbers = is.numbers;
@@ -66,18 +65,16 @@ module _ (s : State) (is : IsState s) where
     new = same_ids (next_of s) (next_with s moment) s.features refl refl is.fresh_ids
 
     made_cover : (p : Point) → IsFalse (list_any (λ area. covers area.1 p) (s.areas ++ enumerate_from s.next_area (stain s.features e)))
-        → stars_of s.kept p ≡ star (with_rules s.catalog next_features.rules) next_features p
+        → stars_of s.kept p ≡ star s.setup.schema next_features p
     made_cover p h =
         let both = or_both (list_any (λ area. covers area.1 p) s.areas) (list_any (λ area. covers area.1 p) (enumerate_from s.next_area (stain s.features e)))
         (sym (list_any-append (λ area. covers area.1 p) s.areas (enumerate_from s.next_area (stain s.features e))) ∙ h) in
         is.cover p both.0
         ∙ sym (locality (setting s) (next_with s moment) s.features e is.sound new may p (sym (any_enumerated (λ r. covers r p) s.next_area (stain s.features e)) ∙ both.1))
-        ∙ sym (star_with s.catalog next_features next_features.rules p)
 
     pub made_state : IsState (made_at moment s e)
     made_state = record {
-      sound = sound_with s.catalog next_features next_features.rules (keeps_sound (setting s) (next_with s moment) s.features e is.sound new may);
-      rules = refl;
+      sound = keeps_sound (setting s) (next_with s moment) s.features e is.sound new may;
       fresh_ids = same_ids (after (next_with s moment) e) (next_of (made_at moment s e)) next_features refl refl (new_after (setting s) (next_with s moment) s.features e new);
       numbered = numbered_more s.areas (stain s.features e) s.next_area is.numbered is.numbers;
       numbers = under_more s.areas (stain s.features e) s.next_area is.numbers;
@@ -87,7 +84,7 @@ module _ (s : State) (is : IsState s) where
     }
 
   -- the edit is a step to the next version
-  pub edited_state : (e : Edit) → MayHappen s (edits e) → IsState (edited s e)
+  pub edited_state : (e : Edit) → MayHappen s (command.Edit e) → IsState (edited s e)
   edited_state e may = at_version (made_at (s.version + 1) s e) (s.version + 1) (made_state (s.version + 1) e may)
 
   -- ---- a validation
@@ -105,7 +102,6 @@ module _ (s : State) (is : IsState s) where
     pub validated_state : IsState (validated s extent)
     validated_state = record {
       sound = is.sound;
-      rules = is.rules;
       fresh_ids = same_ids (next_of s) (next_of (validated s extent)) s.features refl refl is.fresh_ids;
       numbered = AllPairs-filter (λ a b. a.0 ≢ b.0) (λ area. not (meets area.1 extent)) s.areas is.numbered;
       numbers = All-filter (λ area. not (meets area.1 extent)) (λ area. area.0 < s.next_area) s.areas is.numbers;
@@ -121,7 +117,7 @@ pub made_all_state : (s : State) (es : List Edit) → IsState s → MayAllBeMade
 made_all_state s [] is may = is
 made_all_state s (e ∷ es) is may = made_all_state (made_at 0 s e) es (made_state s is 0 e may.0) may.1
 
-pub batched_state : (s : State) (es : List Edit) → IsState s → MayHappen s (batches es) → IsState (batched s es)
+pub batched_state : (s : State) (es : List Edit) → IsState s → MayHappen s (command.Batch es) → IsState (batched s es)
 batched_state s es is may =
     at_version (record (made_by_all s es) { features = settled_at (s.version + 1) (touched_by_all s es) (made_by_all s es).features }) (s.version + 1)
     (settled_state (made_by_all s es) (s.version + 1) (touched_by_all s es) (made_all_state s es is may))
@@ -129,6 +125,7 @@ batched_state s es is may =
 -- ---- all
 
 pub cover_is_kept : CoverLaw
-cover_is_kept s (edits e) is may = edited_state s is e may
-cover_is_kept s (batches es) is may = batched_state s es is may
-cover_is_kept s (validates extent) is may = validated_state s is extent
+cover_is_kept s (command.Edit e) is may = edited_state s is e may
+cover_is_kept s (command.Batch es) is may = batched_state s es is may
+cover_is_kept s (command.Validate extent) is may = validated_state s is extent
+cover_is_kept s _ is may = absurd may

@@ -21,7 +21,7 @@ use Rattle.un_defs.specs.declared.refusal.Refusal.TheVariants as refusal
 use Rattle.un_defs.specs.declared.refusal.Limit.TheVariants as limit
 use Rattle.un_defs.specs.Features.{Features}
 use Rattle.un_defs.specs.Ports.{nodes_of}
-use Rattle.un_defs.specs.Change.{Next, changed, add_row, change_row, new_row, moved, of_kind, on_path, numbered, after}
+use Rattle.un_defs.specs.Change.{Setting, Next, changed, add_row, change_row, new_row, moved, of_kind, on_path, numbered, after}
 use Rattle.un_defs.specs.Laws.{MayBeMade}
 use Rattle.un_defs.specs.Stain.{stain, envelope_of, envelope_of_given}
 use Rattle.un_defs.proofs.RowEdits.{touch}
@@ -34,8 +34,9 @@ use Rattle.un_store.proofs.Held.{found_id}
 use Rattle.un_store.proofs.Makings.{rows_alone}
 use Rattle.un_dirty.specs.Areas.{DirtyList, added}
 use Rattle.un_grid.specs.Grids.{IsGridOf, HasRow, HasInPlace, LacksRow, InsertLaw, RemoveLaw, ReplaceLaw, StayLaw, without_row}
+use Rattle.un_core.specs.declared.setup.Setup.{Setup}
 use Rattle.un_core.specs.State.{State}
-use Rattle.un_core.specs.Step.{setting, next_with, made_at, with_rules}
+use Rattle.un_core.specs.Step.{setting, next_with, made_at}
 use Rattle.un_core.specs.Cover.{IsState}
 use Rattle.un_core.specs.Held.{held, features_in, next_at}
 use Rattle.un_core.specs.RowEdits.{feature_of, envelope_of_row, row_stain, HasPorts}
@@ -265,6 +266,20 @@ too_many_is areas (r ∷ rs) few = refl
 
 -- ---- the state
 
+-- an edit of a row looks at the schema's names alone, and neither at those of the tiers nor at the next association's id
+pub changed_alone : (T : Setting) (next : Next) (F : Features) (e : Edit) → IsRowEdit e
+    → changed T next F e ≡ changed (setting_of T.catalog) (next_at next.feature next.moment) F e
+changed_alone T next F (edit.Insert kind points attrs flow ends note) word = refl
+changed_alone T next F (edit.Reshape id base points) word = refl
+changed_alone T next F (edit.Attrs id base attrs) word = refl
+changed_alone T next F (edit.Kind id base kind) word = refl
+changed_alone T next F (edit.Path id base path) word = refl
+changed_alone T next F (edit.Flow id base flow) word = refl
+changed_alone T next F (edit.Ends id base ends) word = refl
+changed_alone T next F (edit.Note id base note) word = refl
+changed_alone T next F (edit.Delete id base) word = refl
+changed_alone T next F _ word = absurd word
+
 -- the ids that an edit of a row gives
 gives : (next : Next) (e : Edit) → IsRowEdit e → after next e ≡ record next { feature = (after next e).feature }
 gives next (edit.Insert kind points attrs flow ends note) word = refl
@@ -283,20 +298,21 @@ next_id : (next moment : ℕ) (e : Edit) → (after (next_at next 0) e).feature 
 next_id next moment (edit.Insert kind points attrs flow ends note) = refl
 next_id next moment _ = refl
 
-module _ (S : Catalog) (rows : List Row) (kept : List (Point × Star)) (dirty : DirtyList) (version next moment : ℕ) (e : Edit) (word : IsRowEdit e)
+module _ (S : Setup) (rows : List Row) (kept : List (Point × Star)) (dirty : DirtyList) (version next moment : ℕ) (e : Edit) (word : IsRowEdit e)
     (rows_left : List Row) (dirty_left : DirtyList) (next_left : ℕ)
-    (features_left : features_in S rows_left ≡ changed (setting_of S) (next_at next moment) (features_in S rows) e)
-    (dirty_is : dirty_left ≡ added dirty (stain (features_in S rows) e))
+    (features_left : features_in S.schema rows_left ≡ changed (setting_of S.schema) (next_at next moment) (features_in S.schema rows) e)
+    (dirty_is : dirty_left ≡ added dirty (stain (features_in S.schema rows) e))
     (next_is : next_left ≡ (after (next_at next 0) e).feature) where
   abbrev s : State
   s = held S rows kept dirty version next
 
   abbrev with_parts : Features → DirtyList → Next → State
   with_parts G areas ids = record {
-    catalog = with_rules S G.rules;
+    setup = S;
     features = G;
     kept = kept;
     areas = areas.areas;
+    stored = [];
     version = version;
     next_feature = ids.feature;
     next_association = ids.association;
@@ -305,9 +321,10 @@ module _ (S : Catalog) (rows : List Row) (kept : List (Point × Star)) (dirty : 
 
   pub state_is : held S rows_left kept dirty_left version next_left ≡ made_at moment s e
   state_is =
+      let features = features_left ∙ sym (changed_alone (setting s) (next_with s moment) (features_in S.schema rows) e word) in
       let ids : record (next_with s moment) { feature = next_left } ≡ after (next_with s moment) e =
       ap (λ n. record (next_with s moment) { feature = n }) (next_is ∙ next_id next moment e) ∙ sym (gives (next_with s moment) e word) in
-      λ i. with_parts (features_left i) (dirty_is i) (ids i)
+      λ i. with_parts (features i) (dirty_is i) (ids i)
 
   pub is_state : IsState s → MayBeMade (setting s) (next_with s moment) s.features e → IsState (held S rows_left kept dirty_left version next_left)
   is_state is may = subst IsState (sym state_is) (made_state s is moment e may)
@@ -328,12 +345,12 @@ pub two_second : (a b : Option Refusal) (r : Refusal) → a ≡ None → b ≡ S
 two_second a b r p q = (λ i. first_due (p i ∷ q i ∷ []))
 
 -- beside the numbers, an edit is refused as its rows and its areas are
-pub due_beside : (S : Catalog) (rows : List Row) (kept : List (Point × Star)) (dirty : DirtyList) (version next : ℕ) (e : Edit) (d : Option Refusal)
-    → first_due (refusal_of S rows e ∷ too_many dirty.areas (stain (features_in S rows) e) ∷ []) ≡ d → first_due (beside_numbers (held S rows kept dirty version next) e) ≡ d
+pub due_beside : (S : Setup) (rows : List Row) (kept : List (Point × Star)) (dirty : DirtyList) (version next : ℕ) (e : Edit) (d : Option Refusal)
+    → first_due (refusal_of S.schema rows e ∷ too_many dirty.areas (stain (features_in S.schema rows) e) ∷ []) ≡ d → first_due (beside_numbers (held S rows kept dirty version next) e) ≡ d
 due_beside S rows kept dirty version next e d rest =
-    (λ i. first_due (refusal_of S rows e ∷ nothing_stands S rows e i ∷ too_many dirty.areas (stain (features_in S rows) e) ∷ []))
-    ∙ skip (refusal_of S rows e) ∙ rest
+    (λ i. first_due (refusal_of S.schema rows e ∷ nothing_stands S.schema rows e i ∷ too_many dirty.areas (stain (features_in S.schema rows) e) ∷ []))
+    ∙ skip (refusal_of S.schema rows e) ∙ rest
   where
-    skip : (a : Option Refusal) → first_due (a ∷ None ∷ too_many dirty.areas (stain (features_in S rows) e) ∷ []) ≡ first_due (a ∷ too_many dirty.areas (stain (features_in S rows) e) ∷ [])
+    skip : (a : Option Refusal) → first_due (a ∷ None ∷ too_many dirty.areas (stain (features_in S.schema rows) e) ∷ []) ≡ first_due (a ∷ too_many dirty.areas (stain (features_in S.schema rows) e) ∷ [])
     skip None = refl
     skip (Some r) = refl

@@ -1,76 +1,96 @@
--- What is answered by the schema and the accepted commands alone.
-use Rattle.std.proofs.Common.{◌≡◌, ◌+◌, Option, None, Some, Bool, true, false, List, length, refl, sym, ap, ◌∙◌, if◌then◌else◌}
+-- What is answered by the schema, the tiers and the accepted commands alone.
+use Rattle.std.proofs.Common.{◌≡◌, ◌+◌, Bool, true, false, List, length, refl, sym, ap, ◌∙◌}
 use Rattle.std.specs.Option.{option_map_or}
-use Rattle.un_schema.specs.Catalog.{Catalog}
 use Rattle.un_defs.specs.Star.{standing_points}
 use Rattle.un_defs.specs.Ground.{fresh_ground}
 use Rattle.un_ask.specs.declared.typed.TypedAsk.{TypedAsk}
+use Rattle.un_ask.specs.declared.request.Command.{Command}
+use Rattle.un_ask.specs.declared.request.Command.TheVariants as command
 use Rattle.un_ask.specs.declared.query.Asked.{Asked}
 use Rattle.un_ask.specs.declared.query.Asked.TheVariants.{Version, Dirty, Errors, Trace}
 use Rattle.un_ask.specs.declared.reply.Reply.TheVariants as reply
-use Rattle.un_trace.specs.Told.{told, mode_of}
-use Rattle.un_core.specs.Validation.{met}
-use Rattle.un_core.specs.Step.{Event, edits, batches, validates}
-use Rattle.un_core.specs.History.{after_all, history_ground, points_before}
-use Rattle.un_core.specs.Cover.{IsState, MayAllHappen, IsTold}
-use Rattle.un_core.specs.Walked.{reached}
-use Rattle.un_core.specs.Answers.{at_version, connected_from, query_due, refused, start_nodes, starts_due, asked, traced_kept}
-use Rattle.un_core.specs.Traces.{traced_fresh, traced_after}
-use Rattle.un_core.specs.Commands.{event_of, event_due, event_refused, accepted, reply_to}
+use Rattle.un_core.specs.declared.setup.Setup.{Setup}
+use Rattle.un_core.specs.State.{State}
+use Rattle.un_core.specs.Validation.{met, IsKept}
+use Rattle.un_core.specs.History.{after_all}
+use Rattle.un_core.specs.Cover.{IsState, MayAllHappen, IsOfHistory}
+use Rattle.un_core.specs.Listed.{errors_in}
+use Rattle.un_core.specs.Answers.{at_version, connected_from, query_due, refused, start_nodes, starts_due, asked_on, traced, traced_on, survey_for, kept_survey, fresh_survey, kept_basis, fresh_basis}
+use Rattle.un_core.specs.Walks.{TwoGroundsLaw}
+use Rattle.un_core.specs.Commands.{first_refusal, refusal_reply, accepted}
 use Rattle.un_core.specs.Clearing.{fresh_errors}
-use Rattle.un_core.specs.HistoryAnswers.{traced_afresh, traced_by_mode, asked_after, accepted_after, event_reply_after, ReplyLaw, AnswerLaw}
+use Rattle.un_core.specs.HistoryAnswers.{fresh_after, history_survey, history_basis, accepted_after, ReplyLaw, AnswerLaw}
 use Rattle.un_core.proofs.Opening.{all_states}
 use Rattle.un_core.proofs.HistoryKept.{kept_is_history}
 use Rattle.un_core.proofs.Grounds.{history_points}
+use Rattle.un_core.proofs.Asked.{kept_points}
 use Rattle.un_core.proofs.Listed.{errors_listed}
 use Rattle.un_core.proofs.Traces.{fresh_trace, history_trace}
 use Rattle.un_core.proofs.Clearing.{validation_does}
-use Rattle.un_core.proofs.Led.{versions_count}
+use Rattle.un_core.proofs.Accepted.{versions_count}
 
-module _ (S : Catalog) (history : List Event) (may : MayAllHappen S history) where
+-- ---- the two grounds
+
+module _ (s : State) (is : IsState s) where
+  same_on_fresh : (ask : TypedAsk) → traced_on (kept_basis s) ask ≡ traced_on (fresh_basis s) ask
+  same_on_fresh ask = ap (at_version s.version) (go ask.barriers.consistent refl)
+    where
+      go : (b : Bool) → ask.barriers.consistent ≡ b → traced (survey_for (kept_basis s) b) ask ≡ traced (survey_for (fresh_basis s) b) ask
+      go true e = fresh_trace s ask is e
+      go false e = refl
+
+  asked_fresh : (what : Asked) → asked_on s (kept_basis s) what ≡ asked_on s (fresh_basis s) what
+  asked_fresh (Trace ask) = ap (option_map_or (refused s) (starts_due s ask.starts)) (same_on_fresh (connected_from ask (start_nodes s ask.starts)))
+  asked_fresh _ = refl
+
+pub two_grounds : TwoGroundsLaw
+two_grounds s q is = ap (option_map_or (refused s) (query_due s q)) (asked_fresh s is q.what)
+
+-- ---- the history
+
+module _ (S : Setup) (history : List Command) (may : MayAllHappen S history) where
   is : IsState (after_all S history)
   is = all_states S history may
 
-  is_told : IsTold S history
-  is_told = kept_is_history S history may
+  of_history : IsOfHistory S history
+  of_history = kept_is_history S history may
 
-  by_mode : (ask : TypedAsk) → traced_kept (after_all S history) ask ≡ traced_by_mode S history ask
-  by_mode ask = go ask.barriers.consistent refl
-    where
-      afresh : traced_fresh (after_all S history) ask ≡ traced_afresh S history ask
-      afresh = λ i.
-          told (fresh_ground (after_all S history).catalog (after_all S history).features (is_told.areas i)) ask
-          (reached (fresh_ground (after_all S history).catalog (after_all S history).features (is_told.areas i)) (standing_points (after_all S history).features) ask.barriers (mode_of ask.kind) ask.starts)
+  fresh_so : (ask : TypedAsk) → traced (fresh_survey (after_all S history)) ask ≡ traced (fresh_after S history) ask
+  fresh_so ask = λ i. traced (record {
+    topology = fresh_ground (after_all S history).setup.schema (after_all S history).features (of_history.areas i);
+    points = standing_points (after_all S history).features;
+  }) ask
 
-      go : (b : Bool) → ask.barriers.consistent ≡ b → traced_kept (after_all S history) ask ≡ (if b then traced_afresh S history ask else traced_after S history ask)
-      go true e = fresh_trace (after_all S history) ask is e ∙ afresh
-      go false e = history_trace S history ask may
+  by_mode : (ask : TypedAsk) (b : Bool) → ask.barriers.consistent ≡ b
+      → traced (survey_for (kept_basis (after_all S history)) b) ask ≡ traced (survey_for (history_basis S history) b) ask
+  by_mode ask true e = fresh_trace (after_all S history) ask is e ∙ fresh_so ask
+  by_mode ask false e = history_trace S history ask may
 
-  told_so : (what : Asked) → asked (after_all S history) what ≡ asked_after S history what
-  told_so Version = ap reply.Version (versions_count S history)
-  told_so (Dirty extent) = λ i. reply.Dirty (met extent (is_told.areas i)) (versions_count S history i)
-  told_so (Errors extent) =
-      λ i. reply.Errors (errors_listed (history_ground S history) (after_all S history).kept (record { sorted = is.sorted; told = is.told }) (λ p. sym (is_told.kept p)) (points_before S history) (history_points S history may) extent i)
-      (versions_count S history i)
-  told_so (Trace ask) =
+  same_errors : (extent : _) → errors_in (kept_survey (after_all S history)) extent ≡ errors_in (history_survey S history) extent
+  same_errors extent =
+      let kept : IsKept (after_all S history).kept = record { sorted = is.sorted; told = is.told } in
+      sym (errors_listed (kept_survey (after_all S history)) (after_all S history).kept kept (λ p. refl) (kept_points (after_all S history).kept) extent)
+      ∙ errors_listed (history_survey S history) (after_all S history).kept kept (λ p. sym (of_history.kept p)) (history_points S history may) extent
+
+  answered_so : (what : Asked) → asked_on (after_all S history) (kept_basis (after_all S history)) what ≡ asked_on (after_all S history) (history_basis S history) what
+  answered_so Version = ap reply.Version (versions_count S history)
+  answered_so (Dirty extent) = λ i. reply.Dirty (met extent (of_history.areas i)) (versions_count S history i)
+  answered_so (Errors extent) = λ i. reply.Errors (same_errors extent i) (versions_count S history i)
+  answered_so (Trace ask) =
+      let typed = connected_from ask (start_nodes (after_all S history) ask.starts) in
       λ i. option_map_or (refused (after_all S history)) (starts_due (after_all S history) ask.starts)
-      (at_version (versions_count S history i) (by_mode (connected_from ask (start_nodes (after_all S history) ask.starts)) i))
-  told_so _ = refl
+      (at_version (versions_count S history i) (by_mode typed typed.barriers.consistent refl i))
+  answered_so _ = refl
 
-  accepted_so : (e : Event) → accepted (after_all S history) e ≡ accepted_after S history e
-  accepted_so (edits e) = refl
-  accepted_so (batches es) = refl
-  accepted_so (validates extent) =
-      λ i. reply.Validated (length (met extent (is_told.areas i)))
-      (((validation_does (after_all S history) extent is).tells ∙ ap (λ areas. fresh_errors (after_all S history) (met extent areas)) is_told.areas) i)
+  accepted_so : (c : Command) → accepted (after_all S history) c ≡ accepted_after S history c
+  accepted_so (command.Validate extent) =
+      λ i. reply.Validated (length (met extent (of_history.areas i)))
+      (((validation_does (after_all S history) extent is).tells ∙ ap (λ areas. fresh_errors (after_all S history) (met extent areas)) of_history.areas) i)
       (versions_count S history i + 1)
-
-  replied_so : (o : Option Event) → reply_to (after_all S history) o ≡ event_reply_after S history o
-  replied_so None = refl
-  replied_so (Some e) = ap (option_map_or (event_refused (after_all S history) e) (event_due (after_all S history) e)) (accepted_so e)
+  accepted_so _ = refl
 
 pub history_replies : ReplyLaw
-history_replies S history c may = replied_so S history may (event_of c)
+history_replies S history c may = ap (option_map_or (refusal_reply (after_all S history) c) (first_refusal (after_all S history) c)) (accepted_so S history may c)
 
 pub history_answers : AnswerLaw
-history_answers S history q may = ap (option_map_or (refused (after_all S history)) (query_due (after_all S history) q)) (told_so S history may q.what)
+history_answers S history q may = ap (option_map_or (refused (after_all S history)) (query_due (after_all S history) q)) (answered_so S history may q.what)

@@ -5,16 +5,18 @@ use Rattle.std.proofs.lemmas.List.{append-nil, append_assoc}
 use Rattle.un_geom.specs.declared.point.Point.{Point}
 use Rattle.un_geom.specs.Rectangle.{Rectangle}
 use Rattle.un_geom.specs.Places.{covers, meets}
-use Rattle.un_schema.specs.Catalog.{Catalog}
 use Rattle.un_defs.specs.declared.edit.Edit.{Edit}
 use Rattle.un_defs.specs.Stain.{stain}
 use Rattle.un_defs.proofs.ListLemmas.{filter-append}
 use Rattle.un_index.specs.Kept.{stars_of}
+use Rattle.un_ask.specs.declared.request.Command.{Command}
+use Rattle.un_ask.specs.declared.request.Command.TheVariants as command
+use Rattle.un_core.specs.declared.setup.Setup.{Setup}
 use Rattle.un_core.specs.State.{State, fresh_star}
 use Rattle.un_core.specs.Validation.{met, unmet, is_under, rebuilt}
-use Rattle.un_core.specs.Step.{Event, edits, batches, validates, made_at, made_by_all, stain_of_batch}
+use Rattle.un_core.specs.Step.{made_at, made_by_all, stain_of_batch}
 use Rattle.un_core.specs.History.{after_all, made_by, clears, alive_under, dirty_after, kept_after, rebuilds}
-use Rattle.un_core.specs.Cover.{IsState, IsTold, HistoryLaw}
+use Rattle.un_core.specs.Cover.{IsState, IsOfHistory, HistoryLaw}
 use Rattle.un_core.proofs.LookUps.{sorted_map}
 use Rattle.un_core.proofs.Rebuilding.{rebuilt_under, rebuilt_elsewhere}
 use Rattle.un_core.proofs.Opening.{all_states}
@@ -55,8 +57,8 @@ any_pushed t (y ∷ ys) x = go (t y) (any_pushed t ys x)
 
 -- ---- areas
 
--- one event more clears the areas that it clears
-alive_later : (S : Catalog) (later : List Event) (e : Event) (before : List Event)
+-- one command more clears the areas that it clears
+alive_later : (S : Setup) (later : List Command) (e : Command) (before : List Command)
     → alive_under S (later ++ e ∷ []) before ≡ filter (λ area. not (clears area e)) (alive_under S later before)
 alive_later S later e [] = refl
 alive_later S later e (d ∷ before) =
@@ -68,8 +70,8 @@ alive_later S later e (d ∷ before) =
     made = filter_both (λ area. not (clears area e)) (λ area. not (list_any (clears area) later)) (λ area. not (list_any (clears area) (later ++ e ∷ [])))
         (λ area. any_pushed (clears area) later e) (made_by (after_all S before) d)
 
--- an event that clears nothing leaves the areas that it makes behind those that were there
-grown : (S : Catalog) (e : Event) (before : List Event) → ((area : ℕ × Rectangle) → clears area e ≡ false) → IsTold S before
+-- a command that clears nothing leaves the areas that it makes behind those that were there
+grown : (S : Setup) (e : Command) (before : List Command) → ((area : ℕ × Rectangle) → clears area e ≡ false) → IsOfHistory S before
     → (after_all S before).areas ++ made_by (after_all S before) e ≡ dirty_after S (e ∷ before)
 grown S e before none told = λ i. (told.areas ∙ stays ∙ sym (alive_later S [] e before)) i ++ sym (filter_all (made_by (after_all S before) e)) i
   where
@@ -99,15 +101,15 @@ made_kept s (e ∷ es) = made_kept (made_at 0 s e) es
 
 -- ---- stars
 
-validated_kept : (S : Catalog) (before : List Event) (extent : Rectangle) (p : Point) → IsState (after_all S before) → IsTold S before
-    → stars_of (after_all S (validates extent ∷ before)).kept p ≡ kept_after S (validates extent ∷ before) p
+validated_kept : (S : Setup) (before : List Command) (extent : Rectangle) (p : Point) → IsState (after_all S before) → IsOfHistory S before
+    → stars_of (after_all S (command.Validate extent ∷ before)).kept p ≡ kept_after S (command.Validate extent ∷ before) p
 validated_kept S before extent p is told = go (is_under (met extent (after_all S before).areas) p) refl
   where
-    same : is_under (met extent (after_all S before).areas) p ≡ rebuilds S before (validates extent) p
+    same : is_under (met extent (after_all S before).areas) p ≡ rebuilds S before (command.Validate extent) p
     same = any_filtered (λ area. covers area.1 p) (λ area. meets area.1 extent) (after_all S before).areas ∙ ap (list_any (λ area. meets area.1 extent && covers area.1 p)) told.areas
 
     go : (b : Bool) → is_under (met extent (after_all S before).areas) p ≡ b
-        → stars_of (rebuilt (after_all S before) (met extent (after_all S before).areas)) p ≡ (if rebuilds S before (validates extent) p then fresh_star (after_all S before) p else kept_after S before p)
+        → stars_of (rebuilt (after_all S before) (met extent (after_all S before).areas)) p ≡ (if rebuilds S before (command.Validate extent) p then fresh_star (after_all S before) p else kept_after S before p)
     go true e = rebuilt_under (after_all S before) (met extent (after_all S before).areas) is.sound (sorted_map (after_all S before).kept is.sorted) p e ∙ ap (λ b. if b then fresh_star (after_all S before) p else kept_after S before p) (sym e ∙ same)
     go false e =
         rebuilt_elsewhere (after_all S before) (met extent (after_all S before).areas) (sorted_map (after_all S before).kept is.sorted) p e ∙ told.kept p ∙ ap (λ b. if b then fresh_star (after_all S before) p else kept_after S before p) (sym e ∙ same)
@@ -116,18 +118,20 @@ validated_kept S before extent p is told = go (is_under (met extent (after_all S
 
 pub kept_is_history : HistoryLaw
 kept_is_history S [] may = record { areas = refl; kept = λ p. refl }
-kept_is_history S (edits e ∷ before) may =
+kept_is_history S (command.Edit e ∷ before) may =
     let told = kept_is_history S before may.1 in
-    record { areas = grown S (edits e) before (λ area. refl) told; kept = told.kept }
-kept_is_history S (batches es ∷ before) may =
+    record { areas = grown S (command.Edit e) before (λ area. refl) told; kept = told.kept }
+kept_is_history S (command.Batch es ∷ before) may =
     let told = kept_is_history S before may.1 in
     record {
-      areas = made_areas (after_all S before) es ∙ grown S (batches es) before (λ area. refl) told;
+      areas = made_areas (after_all S before) es ∙ grown S (command.Batch es) before (λ area. refl) told;
       kept = λ p. ap (λ kept. stars_of kept p) (made_kept (after_all S before) es) ∙ told.kept p;
     }
-kept_is_history S (validates extent ∷ before) may =
+kept_is_history S (command.Validate extent ∷ before) may =
     let told = kept_is_history S before may.1 in
     record {
-      areas = ap (unmet extent) told.areas ∙ sym (alive_later S [] (validates extent) before) ∙ sym (append-nil (alive_under S (validates extent ∷ []) before));
+      areas = ap (unmet extent) told.areas ∙ sym (alive_later S [] (command.Validate extent) before) ∙ sym (append-nil (alive_under S (command.Validate extent ∷ []) before));
       kept = λ p. validated_kept S before extent p (all_states S before may.1) told;
     }
+kept_is_history S (command.Rule rule ∷ before) may = absurd may.0
+kept_is_history S (command.Update tier subnet ∷ before) may = absurd may.0

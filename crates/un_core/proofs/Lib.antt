@@ -2,7 +2,6 @@ pub mod Asked
 pub mod SameTold
 pub mod Traces
 pub mod NextIds
-pub mod Covered
 pub mod LookUps
 pub mod Rebuilding
 pub mod Numbers
@@ -18,13 +17,16 @@ pub mod Grounds
 pub mod Listed
 pub mod Edited
 pub mod Batching
-pub mod BatchReplies
 pub mod Pointed
 pub mod Rebuilt
 pub mod Applying
 pub mod Alone
-pub mod Led
+pub mod Accepted
 pub mod Clearing
 pub mod HistoryAnswers
 pub mod Attributes
 pub mod Named
+pub mod Exact
+pub mod Logs
+pub mod Faithful
+pub mod Stepping

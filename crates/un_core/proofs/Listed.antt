@@ -16,6 +16,7 @@ use Rattle.un_defs.proofs.OrderLaws.{point_total, point_ties}
 use Rattle.un_defs.proofs.Unique.{from_all, point_itself}
 use Rattle.un_index.specs.Kept.{stars_of}
 use Rattle.un_core.specs.Validation.{by_point, IsKept}
+use Rattle.un_core.specs.Walked.{Survey}
 use Rattle.un_core.specs.Listed.{errors_at, errors_in}
 use Rattle.un_core.proofs.LookUps.{Pairs, table, table_map, stars_table, missing_table, missing}
 use Rattle.un_core.proofs.Telling.{tells, tells_not, tells_something, stars_telling, table_sorted}
@@ -52,7 +53,13 @@ list_telling G extent (p ∷ ps) = go (tells (p, G.stars p)) (covers extent p) r
         by true = rest ∙ ap (λ l. l ++ flat_map (errors_at G) (filter (covers extent) ps)) (sym none)
         by false = rest
 
-module _ (G : Ground) (kept : Pairs) (is : IsKept kept) (same : (p : Point) → G.stars p ≡ stars_of kept p) (points : List Point) (has : HasPoints G points) where
+module _ (v : Survey) (kept : Pairs) (is : IsKept kept) (same : (p : Point) → v.topology.stars p ≡ stars_of kept p) (has : HasPoints v) where
+  abbrev G : Ground
+  G = v.topology
+
+  abbrev points : List Point
+  points = v.points
+
   abbrev sorted : List Point
   sorted = rising point_cmp points
 
@@ -67,7 +74,7 @@ module _ (G : Ground) (kept : Pairs) (is : IsKept kept) (same : (p : Point) → 
       ]
 
   -- the errors of what is kept, by the ground that it is
-  pub errors_listed : (extent : Rectangle) → errors_kept kept extent ≡ errors_in G points extent
+  pub errors_listed : (extent : Rectangle) → errors_kept kept extent ≡ errors_in v extent
   errors_listed extent =
       ap (λ l. errors_kept l extent) (canonical kept (filter tells (table G.stars sorted)) is.sorted
       (IsStrictlySortedBy-filter by_point tells (table G.stars sorted) (table_sorted G.stars sorted (sorted-rising point_total points)))

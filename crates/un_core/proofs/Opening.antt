@@ -1,10 +1,10 @@
 -- The opening state is a state, and so is each that a history leads to.
 use Rattle.std.proofs.Common.{List, [], ◌∷◌, refl, arith}
 use Rattle.std.specs.List.Sorted.{IsStrictlySortedBy}
-use Rattle.un_schema.specs.Catalog.{Catalog}
+use Rattle.un_ask.specs.declared.request.Command.{Command}
+use Rattle.un_core.specs.declared.setup.Setup.{Setup}
 use Rattle.un_core.specs.State.{opening}
 use Rattle.un_core.specs.Validation.{by_point}
-use Rattle.un_core.specs.Step.{Event}
 use Rattle.un_core.specs.History.{after_all}
 use Rattle.un_core.specs.Cover.{IsState, MayAllHappen}
 use Rattle.un_core.proofs.CoverKept.{cover_is_kept}
@@ -13,7 +13,7 @@ sorted_nil : IsStrictlySortedBy by_point []
 unfolding IsStrictlySortedBy
 sorted_nil = tt
 
-pub opening_state : (S : Catalog) → IsState (opening S)
+pub opening_state : (S : Setup) → IsState (opening S)
 opening_state S = record {
   sound = record {
     rows = λ i j d l m. absurd (omega arith);
@@ -23,7 +23,6 @@ opening_state S = record {
     ends = λ i d l. absurd (omega arith);
     controlled = λ i d l. absurd (omega arith);
   };
-  rules = refl;
   fresh_ids = record { feature = λ i d l. absurd (omega arith); association = λ i d l. absurd (omega arith) };
   numbered = λ i j d l m. absurd (omega arith);
   numbers = λ i d l. absurd (omega arith);
@@ -32,6 +31,6 @@ opening_state S = record {
   cover = λ p _. refl;
 }
 
-pub all_states : (S : Catalog) (history : List Event) → MayAllHappen S history → IsState (after_all S history)
+pub all_states : (S : Setup) (history : List Command) → MayAllHappen S history → IsState (after_all S history)
 all_states S [] may = opening_state S
-all_states S (e ∷ before) may = cover_is_kept (after_all S before) e (all_states S before may.1) may.0
+all_states S (c ∷ before) may = cover_is_kept (after_all S before) c (all_states S before may.1) may.0

@@ -137,7 +137,7 @@ bare F p none n h = false_unless (same_point n.at p) (λ t.
 
 module _ (s : State) (is : IsState s) (grid : List (Point × List Port)) (stands : IsGridOf grid s.features) where
   nothing_stands : (p : Point) → value_at p grid ≡ None → fresh_star s p ≡ empty_star
-  nothing_stands p none = empty_elsewhere s.catalog s.features is.sound p (bare s.features p (sym (stands p) ∙ ap (λ o. unwrap_or o []) none))
+  nothing_stands p none = empty_elsewhere s.setup.schema s.features is.sound p (bare s.features p (sym (stands p) ∙ ap (λ o. unwrap_or o []) none))
 
   pub are_points : (areas : List (ℕ × Rectangle)) (set : List Point) → Gathers grid s.kept areas set → ArePoints s areas set
   are_points areas set g = record {

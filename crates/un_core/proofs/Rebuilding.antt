@@ -57,7 +57,7 @@ module _ (s : State) (areas : List (ℕ × Rectangle)) where
   outside = kept_by (λ p. not (is_under areas p)) s.kept
 
   abbrev inside : Pairs
-  inside = kept_by (is_under areas) (fresh s.catalog s.features)
+  inside = kept_by (is_under areas) (fresh s.setup.schema s.features)
 
   -- no point has a star of both sorts
   pub parts_map : IsMap s.kept → IsMap (outside ++ inside)
@@ -69,42 +69,42 @@ module _ (s : State) (areas : List (ℕ × Rectangle)) where
         ]
         | inr i ↦ elim (among_cases outside inside b l) [
           | inl j ↦ absurd (both (sym (point_ties a.0 b.0 e)) (from_outside b j).1 (from_inside a i).1)
-          | inr j ↦ table_map (star s.catalog s.features) (standing_points s.features) a b (from_inside a i).0 (from_inside b j).0 e
+          | inr j ↦ table_map (star s.setup.schema s.features) (standing_points s.features) a b (from_inside a i).0 (from_inside b j).0 e
         ]
       ]
     where
       from_outside : (pair : Point × Star) → Among outside pair → Among s.kept pair × (not (is_under areas pair.0) ≡ true)
       from_outside pair = among_from-filter (λ pair. not (is_under areas pair.0)) s.kept pair
 
-      from_inside : (pair : Point × Star) → Among inside pair → Among (fresh s.catalog s.features) pair × (is_under areas pair.0 ≡ true)
-      from_inside pair = among_from-filter (λ pair. is_under areas pair.0) (fresh s.catalog s.features) pair
+      from_inside : (pair : Point × Star) → Among inside pair → Among (fresh s.setup.schema s.features) pair × (is_under areas pair.0 ≡ true)
+      from_inside pair = among_from-filter (λ pair. is_under areas pair.0) (fresh s.setup.schema s.features) pair
 
       both : {p q : Point} → p ≡ q → not (is_under areas p) ≡ true → is_under areas q ≡ true → ⊥
       both e out held = true≢false (sym out ∙ ap (λ p. not (is_under areas p)) e ∙ ap not held)
 
-  pub rebuilt_under : IsSound s.catalog s.features → IsMap s.kept → (p : Point) → is_under areas p ≡ true → stars_of (rebuilt s areas) p ≡ fresh_star s p
+  pub rebuilt_under : IsSound s.setup.schema s.features → IsMap s.kept → (p : Point) → is_under areas p ≡ true → stars_of (rebuilt s areas) p ≡ fresh_star s p
   rebuilt_under sound ties p e =
       stars_rising (outside ++ inside) (parts_map ties) p
       ∙ stars_right outside inside p (missing_kept (λ p. not (is_under areas p)) s.kept p (ap not e))
-      ∙ stars_kept (is_under areas) (fresh s.catalog s.features) p e
-      ∙ stars_fresh s.catalog s.features sound p
+      ∙ stars_kept (is_under areas) (fresh s.setup.schema s.features) p e
+      ∙ stars_fresh s.setup.schema s.features sound p
 
   pub rebuilt_elsewhere : IsMap s.kept → (p : Point) → is_under areas p ≡ false → stars_of (rebuilt s areas) p ≡ stars_of s.kept p
   rebuilt_elsewhere ties p e =
       stars_rising (outside ++ inside) (parts_map ties) p
-      ∙ stars_left outside inside p (missing_kept (is_under areas) (fresh s.catalog s.features) p e)
+      ∙ stars_left outside inside p (missing_kept (is_under areas) (fresh s.setup.schema s.features) p e)
       ∙ stars_kept (λ p. not (is_under areas p)) s.kept p (ap not e)
 
   pub rebuilt_sorted : IsStrictlySortedBy by_point (rebuilt s areas)
   rebuilt_sorted = sorted-rising by_point_total (outside ++ inside)
 
   -- a pair of either sort tells something
-  pub rebuilt_told : IsSound s.catalog s.features → ((pair : Point × Star) → Among s.kept pair → pair.1 ≢ empty_star)
+  pub rebuilt_told : IsSound s.setup.schema s.features → ((pair : Point × Star) → Among s.kept pair → pair.1 ≢ empty_star)
       → (pair : Point × Star) → Among (rebuilt s areas) pair → pair.1 ≢ empty_star
   rebuilt_told sound told pair h =
       elim (among_cases outside inside pair (among_from-rising by_point (outside ++ inside) pair h)) [
         | inl i ↦ told pair (among_from-filter (λ pair. not (is_under areas pair.0)) s.kept pair i).0
         | inr i ↦ λ e.
-            let r = among_from-map (λ p. (p, star s.catalog s.features p)) (standing_points s.features) pair (among_from-filter (λ pair. is_under areas pair.0) (fresh s.catalog s.features) pair i).0 in
-            told_fresh s.catalog s.features sound r.0 r.1 (ap (λ pair. pair.1) r.2 ∙ e)
+            let r = among_from-map (λ p. (p, star s.setup.schema s.features p)) (standing_points s.features) pair (among_from-filter (λ pair. is_under areas pair.0) (fresh s.setup.schema s.features) pair i).0 in
+            told_fresh s.setup.schema s.features sound r.0 r.1 (ap (λ pair. pair.1) r.2 ∙ e)
       ]

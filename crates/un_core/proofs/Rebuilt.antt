@@ -37,7 +37,7 @@ nothing_before : (n : ℕ) → n ≡ 0 + n
 nothing_before n = omega arith
 
 -- the star that was built is that of all features
-pub fresh_of : (s : State) (S : Catalog) (F : Features) (p : Point) (built : Star) → S ≡ s.catalog → F ≡ s.features → built ≡ star S F p → built ≡ fresh_star s p
+pub fresh_of : (s : State) (S : Catalog) (F : Features) (p : Point) (built : Star) → S ≡ s.setup.schema → F ≡ s.features → built ≡ star S F p → built ≡ fresh_star s p
 fresh_of s S F p built same_catalog same_features is = is ∙ (λ i. star (same_catalog i) (same_features i) p)
 
 module _ (s : State) (points : List Point) (p : Point) (kept more : List (Point × Star)) (star : Star) where

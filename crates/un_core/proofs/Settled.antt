@@ -109,12 +109,11 @@ pub settled_state : (s : State) (moment : ℕ) (ids : List ℕ) → IsState s �
 settled_state s moment ids is =
     let plainly = settle_plainly moment ids in
     record {
-      sound = plainly_sound s.catalog s.features (settle moment ids) plainly is.sound;
-      rules = is.rules;
-      fresh_ids = plainly_new s.catalog s.features (settle moment ids) plainly _ is.fresh_ids;
+      sound = plainly_sound s.setup.schema s.features (settle moment ids) plainly is.sound;
+      fresh_ids = plainly_new s.setup.schema s.features (settle moment ids) plainly _ is.fresh_ids;
       numbered = is.numbered;
       numbers = is.numbers;
       sorted = is.sorted;
       told = is.told;
-      cover = λ p clean. is.cover p clean ∙ plainly_star s.catalog s.features (settle moment ids) plainly is.sound p;
+      cover = λ p clean. is.cover p clean ∙ plainly_star s.setup.schema s.features (settle moment ids) plainly is.sound p;
     }

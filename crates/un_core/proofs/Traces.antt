@@ -1,5 +1,5 @@
--- Traces over what is kept answer as over all features in consistent mode, and as the history tells in either.
-use Rattle.std.proofs.Common.{◌≡◌, Bool, true, false, List, [], ◌∷◌, map, filter, find, slice_get, Option, None, Some, refl, sym, ap, ◌∙◌, inl, IsTrue, if◌then◌else◌, option_and_then}
+-- Traces over the kept topology answer as over all features in consistent mode, and as over what the history leaves in either.
+use Rattle.std.proofs.Common.{◌≡◌, Bool, true, false, List, [], ◌∷◌, filter, find, slice_get, Option, None, Some, refl, sym, ap, ◌∙◌, inl, IsTrue, if◌then◌else◌, option_and_then}
 use Rattle.std.specs.declared.cmp.Ordering.{Ordering}
 use Rattle.std.specs.List.{list_any}
 use Rattle.std.specs.BTreeSet.{insert_key}
@@ -8,17 +8,19 @@ use Rattle.un_geom.specs.Places.{covers}
 use Rattle.un_defs.specs.declared.port.Node.{Node}
 use Rattle.un_defs.specs.declared.walk.Dirt.{Dirt}
 use Rattle.un_defs.specs.Orders.{rising, least, port_cmp, same_port}
-use Rattle.un_defs.specs.Ground.{Ground, fresh_ground, entry, is_dirty}
+use Rattle.un_defs.specs.Ground.{Ground, entry, is_dirty}
 use Rattle.un_defs.specs.Reach.{IsReach, leads, dirt, area_cmp, areas_over, ports_under}
 use Rattle.un_defs.proofs.Rising.{Among, among_from-rising, among-insert_key}
 use Rattle.un_defs.proofs.Members.{among-map, among-filter, among_from-filter, among_from_list_any, list_any_from_among}
 use Rattle.un_ask.specs.declared.typed.TypedAsk.{TypedAsk}
 use Rattle.un_trace.specs.Told.{told, told_over, mode_of}
-use Rattle.un_core.specs.State.{State, kept_ground}
+use Rattle.un_ask.specs.declared.request.Command.{Command}
+use Rattle.un_core.specs.declared.setup.Setup.{Setup}
+use Rattle.un_core.specs.State.{State, kept_ground, fresh_ground_of}
 use Rattle.un_core.specs.History.{after_all}
-use Rattle.un_core.specs.Cover.{IsState}
-use Rattle.un_core.specs.Answers.{reached_kept}
-use Rattle.un_core.specs.Traces.{FreshTraceLaw, HistoryTraceLaw}
+use Rattle.un_core.specs.Cover.{IsState, MayAllHappen}
+use Rattle.un_core.specs.Answers.{kept_survey, fresh_survey, reached_from, traced}
+use Rattle.un_core.specs.HistoryAnswers.{history_survey}
 use Rattle.un_core.proofs.Asked.{kept_points}
 use Rattle.un_core.proofs.Grounds.{reached_reaches, reached_fresh, reached_told, same_ground}
 use Rattle.un_core.proofs.HistoryKept.{kept_is_history}
@@ -69,18 +71,18 @@ no_dirt G nodes none n h = go (is_dirty G n.at) refl
 
 -- ---- what is kept
 
-kept_reach : (s : State) (ask : TypedAsk) → IsReach (leads (kept_ground s) ask.barriers (mode_of ask.kind)) ask.starts (reached_kept s ask)
-kept_reach s ask = reached_reaches (kept_ground s) (map (λ pair. pair.0) s.kept) (kept_points s.kept) ask.barriers (mode_of ask.kind) ask.starts
+kept_reach : (s : State) (ask : TypedAsk) → IsReach (leads (kept_ground s) ask.barriers (mode_of ask.kind)) ask.starts (reached_from (kept_survey s) ask)
+kept_reach s ask = reached_reaches (kept_survey s) (kept_points s.kept) ask.barriers (mode_of ask.kind) ask.starts
 
 module _ (s : State) (ask : TypedAsk) where
   abbrev K : Ground
   K = kept_ground s
 
   abbrev H : Ground
-  H = fresh_ground s.catalog s.features s.areas
+  H = fresh_ground_of s
 
   abbrev nodes : List Node
-  nodes = reached_kept s ask
+  nodes = reached_from (kept_survey s) ask
 
   same_entry : IsState s → dirt K nodes ≡ None → (n : Node) → Among nodes n → entry K n ≡ entry H n
   same_entry is none n h = ap (λ star. find (λ s. same_port s.port n.port) star.spots) (is.cover n.at (no_dirt K nodes none n h))
@@ -94,14 +96,16 @@ module _ (s : State) (ask : TypedAsk) where
   told_same is consistent None e =
       dirt_given K None consistent e ∙ told_agrees K H ask nodes (same_entry is e) ∙ sym (dirt_given H None consistent e)
 
-pub fresh_trace : FreshTraceLaw
+-- in consistent mode the kept topology serves as well as all features: the result is the same, or the refusal for dirty ground
+pub fresh_trace : (s : State) (ask : TypedAsk) → IsState s → IsTrue ask.barriers.consistent → traced (kept_survey s) ask ≡ traced (fresh_survey s) ask
 fresh_trace s ask is consistent =
-    told_same s ask is consistent (dirt (kept_ground s) (reached_kept s ask)) refl
-    ∙ ap (told (fresh_ground s.catalog s.features s.areas) ask)
-    (reached_fresh s is ask.barriers (mode_of ask.kind) consistent ask.starts (reached_kept s ask) (kept_reach s ask))
+    told_same s ask is consistent (dirt (kept_ground s) (reached_from (kept_survey s) ask)) refl
+    ∙ ap (told (fresh_ground_of s) ask)
+    (reached_fresh s is ask.barriers (mode_of ask.kind) consistent ask.starts (reached_from (kept_survey s) ask) (kept_reach s ask))
 
-pub history_trace : HistoryTraceLaw
+-- in either mode it serves as well as what the history leaves
+pub history_trace : (S : Setup) (history : List Command) (ask : TypedAsk) → MayAllHappen S history → traced (kept_survey (after_all S history)) ask ≡ traced (history_survey S history) ask
 history_trace S history ask may =
-    let is_told = kept_is_history S history may in
-    let nodes = reached_told S history may is_told ask.barriers (mode_of ask.kind) ask.starts (reached_kept (after_all S history) ask) (kept_reach (after_all S history) ask) in
-    λ i. told (same_ground S history is_told i) ask (nodes i)
+    let is = kept_is_history S history may in
+    let nodes = reached_told S history may is ask.barriers (mode_of ask.kind) ask.starts (reached_from (kept_survey (after_all S history)) ask) (kept_reach (after_all S history) ask) in
+    λ i. told (same_ground S history is i) ask (nodes i)

@@ -1,7 +1,8 @@
 -- What a query is answered.
 pub use Rattle.un_core.specs.Refusals.{refused}
-use Rattle.std.specs.Prelude.{ℕ, ◌==◌, nat_lt, not, Bool, true, false, List, [], ◌∷◌, map, filter_map, length, flat_map, Option, None, Some, is_some, option_and_then}
+use Rattle.std.specs.Prelude.{ℕ, ◌==◌, nat_lt, not, Bool, true, false, List, [], ◌∷◌, map, filter_map, length, Option, None, Some, is_some, option_and_then, if◌then◌else◌}
 use Rattle.std.specs.Option.{option_map_or}
+use Rattle.un_geom.specs.Rectangle.{Rectangle}
 use Rattle.un_schema.specs.declared.place.Place.{Place}
 use Rattle.un_schema.specs.declared.place.Place.TheVariants as place
 use Rattle.un_defs.specs.declared.port.Port.{Port}
@@ -10,10 +11,9 @@ use Rattle.un_defs.specs.declared.walk.Barriers.{Barriers}
 use Rattle.un_defs.specs.declared.refusal.Refusal.{Refusal}
 use Rattle.un_defs.specs.declared.refusal.Refusal.TheVariants as refusal
 use Rattle.un_defs.specs.Features.{row}
+use Rattle.un_defs.specs.Star.{standing_points}
 use Rattle.un_grid.specs.Numbers.{port_node}
 use Rattle.un_store.specs.Refusals.{first_due, due_if}
-use Rattle.un_points.specs.PointMaps.{covered}
-use Rattle.un_index.specs.Kept.{errors_of}
 use Rattle.un_ask.specs.declared.trace.TraceKind.{TraceKind}
 use Rattle.un_ask.specs.declared.trace.TraceKind.TheVariants as kind
 use Rattle.un_ask.specs.declared.trace.TraceAsk.{TraceAsk}
@@ -24,9 +24,10 @@ use Rattle.un_ask.specs.declared.query.Asked.TheVariants.{Version, Feature, Dirt
 use Rattle.un_ask.specs.declared.reply.Reply.{Reply}
 use Rattle.un_ask.specs.declared.reply.Reply.TheVariants as reply
 use Rattle.un_trace.specs.Told.{told, mode_of}
-use Rattle.un_core.specs.State.{State, kept_ground}
+use Rattle.un_core.specs.State.{State, kept_ground, fresh_ground_of}
 use Rattle.un_core.specs.Validation.{met}
-use Rattle.un_core.specs.Walked.{reached}
+use Rattle.un_core.specs.Walked.{Survey, reached}
+use Rattle.un_core.specs.Listed.{errors_in}
 use Rattle.un_core.specs.Feature.{feature_told}
 
 -- ---- what is taken
@@ -78,26 +79,20 @@ query_due s q = first_due (untaken q.what ∷ too_early s q.seen ∷ [])
 abbrev pub start_node : State → Port → Option Node
 start_node s q = option_and_then (λ r. port_node r q.number) (row s.features q.feature)
 
--- no live row has the port
-abbrev pub start_due : State → Port → Option Refusal
-start_due s q = first_due
-    (due_if (not (is_some (row s.features q.feature))) (refusal.NoSuchFeature q.feature)
-    ∷ due_if (not (is_some (start_node s q))) (refusal.NoStart q.feature q.number)
-    ∷ [])
+-- no live row has the feature's id
+abbrev pub no_feature : State → Port → Option Refusal
+no_feature s q = due_if (not (is_some (row s.features q.feature))) (refusal.NoSuchFeature q.feature)
 
--- the refusal of the first start that is none
+-- the live row has no such port
+abbrev pub no_start : State → Port → Option Refusal
+no_start s q = due_if (not (is_some (start_node s q))) (refusal.NoStart q.feature q.number)
+
+-- the first refusal of the starts: their features are looked at first, and then their ports
 abbrev pub starts_due : State → List Port → Option Refusal
-starts_due s starts = first_due (map (start_due s) starts)
+starts_due s starts = first_due (first_due (map (no_feature s) starts) ∷ first_due (map (no_start s) starts) ∷ [])
 
 abbrev pub start_nodes : State → List Port → List Node
 start_nodes s starts = filter_map (start_node s) starts
-
--- ---- replies
-
--- the feature with the id as it stands, or that none is live
-abbrev pub feature_reply : State → ℕ → Reply
-feature_reply s id =
-    option_map_or (λ r. reply.Feature (feature_told s.catalog r) s.version) (row s.features id) (refused s (refusal.NoSuchFeature id))
 
 -- where a walk stops: at the stops, and at dirty ground in consistent mode
 abbrev pub barriers_of : TraceAsk → Barriers
@@ -116,9 +111,44 @@ connected_from ask starts = record {
   functions = [];
 }
 
--- what a walk of the trace reaches over what is kept
-abbrev pub reached_kept : State → TypedAsk → List Node
-reached_kept s ask = reached (kept_ground s) (map (λ pair. pair.0) s.kept) ask.barriers (mode_of ask.kind) ask.starts
+-- ---- what answers rest on
+
+-- the topology that traces in consistent mode go over, and that of all else; the dirty areas; and the version
+pub record Basis : Type 0 where
+  pub consistent : Survey
+  pub other : Survey
+  pub areas : List (ℕ × Rectangle)
+  pub version : ℕ
+
+-- the kept topology, as the points that have a star
+abbrev pub kept_survey : State → Survey
+kept_survey s = record { topology = kept_ground s; points = map (λ pair. pair.0) s.kept }
+
+-- the topology of all features
+abbrev pub fresh_survey : State → Survey
+fresh_survey s = record { topology = fresh_ground_of s; points = standing_points s.features }
+
+-- all answers rest on the kept topology
+abbrev pub kept_basis : State → Basis
+kept_basis s = record { consistent = kept_survey s; other = kept_survey s; areas = s.areas; version = s.version }
+
+-- consistent traces rest on all features
+abbrev pub fresh_basis : State → Basis
+fresh_basis s = record { consistent = fresh_survey s; other = kept_survey s; areas = s.areas; version = s.version }
+
+abbrev pub survey_for : Basis → Bool → Survey
+survey_for b consistent = if consistent then b.consistent else b.other
+
+-- ---- replies
+
+-- the feature with the id as it stands, or that none is live
+abbrev pub feature_reply : State → ℕ → Reply
+feature_reply s id =
+    option_map_or (λ r. reply.Feature (feature_told s.setup.schema r) s.version) (row s.features id) (refused s (refusal.NoSuchFeature id))
+
+-- the nodes that a trace reaches
+abbrev pub reached_from : Survey → TypedAsk → List Node
+reached_from v ask = reached v ask.barriers (mode_of ask.kind) ask.starts
 
 -- what a trace answers, with the version of the state
 abbrev pub at_version : ℕ → Reply → Reply
@@ -138,31 +168,38 @@ at_version v (reply.Dirty areas version) = reply.Dirty areas version
 at_version v (reply.Errors errors version) = reply.Errors errors version
 at_version v (reply.Subnet controllers members status subnet tier updated version) = reply.Subnet controllers members status subnet tier updated version
 
--- the answer of a trace over what is kept, with version 0
-abbrev pub traced_kept : State → TypedAsk → Reply
-traced_kept s ask = told (kept_ground s) ask (reached_kept s ask)
+-- the answer of a trace over a topology, with version 0
+abbrev pub traced : Survey → TypedAsk → Reply
+traced v ask = told v.topology ask (reached_from v ask)
+
+-- the answer of a trace
+abbrev pub traced_on : Basis → TypedAsk → Reply
+traced_on b ask = at_version b.version (traced (survey_for b ask.barriers.consistent) ask)
 
 -- the answer of a connected trace
-abbrev pub traced : State → TraceAsk → Reply
-traced s ask = option_map_or (refused s) (starts_due s ask.starts)
-    (at_version s.version (traced_kept s (connected_from ask (start_nodes s ask.starts))))
+abbrev pub connected : State → Basis → TraceAsk → Reply
+connected s b ask = option_map_or (refused s) (starts_due s ask.starts) (traced_on b (connected_from ask (start_nodes s ask.starts)))
 
 -- the answer of a query that is not refused before
-abbrev pub asked : State → Asked → Reply
-asked s Version = reply.Version s.version
-asked s (Feature id) = feature_reply s id
-asked s (Dirty extent) = reply.Dirty (met extent s.areas) s.version
-asked s (Errors extent) = reply.Errors (flat_map errors_of (covered extent s.kept)) s.version
-asked s (Subnet tier subnet) = refused s (refusal.BadRequest place.Ask)
-asked s (Trace ask) = traced s ask
+abbrev pub asked_on : State → Basis → Asked → Reply
+asked_on s b Version = reply.Version b.version
+asked_on s b (Feature id) = feature_reply s id
+asked_on s b (Dirty extent) = reply.Dirty (met extent b.areas) b.version
+asked_on s b (Errors extent) = reply.Errors (errors_in b.other extent) b.version
+asked_on s b (Subnet tier subnet) = refused s (refusal.BadRequest place.Ask)
+asked_on s b (Trace ask) = connected s b ask
 
--- what a query is answered
+-- the answer of a query
+abbrev pub answer_on : State → Basis → Query → Reply
+answer_on s b q = option_map_or (refused s) (query_due s q) (asked_on s b q.what)
+
+-- the answer of a query over the kept topology
 abbrev pub answer : State → Query → Reply
-answer s q = option_map_or (refused s) (query_due s q) (asked s q.what)
+answer s q = answer_on s (kept_basis s) q
 
 -- ---- look-ups
 
 -- the nodes that a trace reaches; no other query reaches any
 abbrev pub reached_by : State → Asked → List Node
-reached_by s (Trace ask) = reached_kept s (connected_from ask (start_nodes s ask.starts))
+reached_by s (Trace ask) = reached_from (kept_survey s) (connected_from ask (start_nodes s ask.starts))
 reached_by s what = []

@@ -2,53 +2,56 @@
 use Rattle.std.specs.Prelude.{◌≡◌, ◌≢◌, ◌<◌, List, [], ◌∷◌, All, ⊤}
 use Rattle.std.specs.List.Sorted.{IsStrictlySortedBy}
 use Rattle.un_geom.specs.declared.point.Point.{Point}
-use Rattle.un_schema.specs.Catalog.{Catalog}
 use Rattle.un_defs.specs.declared.edit.Edit.{Edit}
 use Rattle.un_defs.specs.Star.{empty_star}
 use Rattle.un_defs.specs.Sound.{IsSound}
 use Rattle.un_defs.specs.Ground.{AreNumbered}
 use Rattle.un_defs.specs.Laws.{IsCovered, AreNew, MayBeMade}
 use Rattle.un_index.specs.Kept.{stars_of}
+use Rattle.un_ask.specs.declared.request.Command.{Command}
+use Rattle.un_ask.specs.declared.request.Command.TheVariants as command
+use Rattle.un_core.specs.declared.setup.Setup.{Setup}
 use Rattle.un_core.specs.State.{State, kept_ground}
 use Rattle.un_core.specs.Validation.{by_point}
-use Rattle.un_core.specs.Step.{Event, edits, batches, validates, setting, next_with, next_of, made_at, step}
+use Rattle.un_core.specs.Step.{setting, next_with, next_of, made_at, next_state}
 use Rattle.un_core.specs.History.{after_all, dirty_after, kept_after}
 
 -- the features are sound, the next ids and numbers are new, and each point that no dirty area covers has its fresh star
 pub record IsState (s : State) : Type 0 where
-  pub sound : IsSound s.catalog s.features
-  pub rules : s.features.rules ≡ s.catalog.rules
+  pub sound : IsSound s.setup.schema s.features
   pub fresh_ids : AreNew (next_of s) s.features
   pub numbered : AreNumbered s.areas
   pub numbers : All (λ area. area.0 < s.next_area) s.areas
   pub sorted : IsStrictlySortedBy by_point s.kept
   pub told : All (λ pair. pair.1 ≢ empty_star) s.kept
-  pub cover : IsCovered s.catalog s.features (kept_ground s)
+  pub cover : IsCovered s.setup.schema s.features (kept_ground s)
 
 -- each edit of a batch may be made on what the ones before it left
 abbrev pub MayAllBeMade : State → List Edit → Type 0
 MayAllBeMade s [] = ⊤
 MayAllBeMade s (e ∷ es) = MayBeMade (setting s) (next_with s 0) s.features e × MayAllBeMade (made_at 0 s e) es
 
--- an edit that is accepted may be made, and so may each of a batch; a validation is always accepted
-abbrev pub MayHappen : State → Event → Type 0
-MayHappen s (edits e) = MayBeMade (setting s) (next_of s) s.features e
-MayHappen s (batches es) = MayAllBeMade s es
-MayHappen s (validates extent) = ⊤
+-- An edit that is accepted may be made, and so may each of a batch; a validation is always accepted. No rule is added and no subnetwork
+-- updated yet.
+abbrev pub MayHappen : State → Command → Type 0
+MayHappen s (command.Edit e) = MayBeMade (setting s) (next_of s) s.features e
+MayHappen s (command.Batch es) = MayAllBeMade s es
+MayHappen s (command.Validate extent) = ⊤
+MayHappen s _ = ⊥
 
--- each event might happen after those before it
-abbrev pub MayAllHappen : Catalog → List Event → Type 0
+-- each command might happen after those before it
+abbrev pub MayAllHappen : Setup → List Command → Type 0
 MayAllHappen S [] = ⊤
-MayAllHappen S (e ∷ before) = MayHappen (after_all S before) e × MayAllHappen S before
+MayAllHappen S (c ∷ before) = MayHappen (after_all S before) c × MayAllHappen S before
 
 -- the opening state is one, and what might happen to a state leaves a state
 abbrev pub CoverLaw : Type 0
-CoverLaw = (s : State) (e : Event) → IsState s → MayHappen s e → IsState (step s e)
+CoverLaw = (s : State) (c : Command) → IsState s → MayHappen s c → IsState (next_state s c)
 
--- what is kept, and what is dirty, is what the history tells
-pub record IsTold (S : Catalog) (history : List Event) : Type 0 where
+-- the kept topology and the dirty areas are those of the history
+pub record IsOfHistory (S : Setup) (history : List Command) : Type 0 where
   pub areas : (after_all S history).areas ≡ dirty_after S history
   pub kept : (p : Point) → stars_of (after_all S history).kept p ≡ kept_after S history p
 
 abbrev pub HistoryLaw : Type 0
-HistoryLaw = (S : Catalog) (history : List Event) → MayAllHappen S history → IsTold S history
+HistoryLaw = (S : Setup) (history : List Command) → MayAllHappen S history → IsOfHistory S history

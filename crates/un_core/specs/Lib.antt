@@ -12,7 +12,10 @@ pub mod Feature
 pub mod Named
 pub mod Commands
 pub mod Answers
-pub mod Traces
-pub mod Led
+pub mod Walks
+pub mod Accepted
 pub mod Clearing
 pub mod HistoryAnswers
+pub mod Logs
+pub mod NoMemory
+pub mod Requests

@@ -52,7 +52,7 @@ standing_due F _ = None
 -- what may be due of an edit, in order, beside the numbers, which are looked at once for a command
 abbrev pub beside_numbers : State → Edit → List (Option Refusal)
 beside_numbers s e =
-    refusal_of s.catalog s.features.rows e
+    refusal_of s.setup.schema s.features.rows e
     ∷ standing_due s.features e
     ∷ too_many s.areas (stain s.features e)
     ∷ []

@@ -1,6 +1,5 @@
 -- An edit of a row, by the row before it and the row after it.
-use Rattle.std.specs.Prelude.{◌≡◌, ℕ, Bool, List, [], ◌++◌, Option, Some, None, IfSome, is_some, option_to_list}
-use Rattle.std.specs.List.{list_all}
+use Rattle.std.specs.Prelude.{◌≡◌, ℕ, Bool, true, false, List, [], ◌++◌, Option, IfSome, option_to_list}
 use Rattle.std.specs.Option.{option_map_or}
 use Rattle.un_geom.specs.declared.point.Point.{Point}
 use Rattle.un_geom.specs.Rectangle.{Rectangle}
@@ -9,26 +8,20 @@ use Rattle.un_defs.specs.declared.port.Port.{Port}
 use Rattle.un_defs.specs.declared.row.Row.{Row}
 use Rattle.un_defs.specs.declared.edit.Edit.{Edit}
 use Rattle.un_defs.specs.declared.edit.Edit.TheVariants as edit
-use Rattle.un_ask.specs.declared.word.EditWord.{EditWord}
-use Rattle.un_ask.specs.declared.word.EditWord.TheVariants as word
 use Rattle.un_grid.specs.Grids.{HasRow, LacksRow, HasInPlace}
 
--- the word of an edit of a row
-abbrev pub row_word : Edit → Option EditWord
-row_word (edit.Insert kind points attrs flow ends note) = Some word.Insert
-row_word (edit.Reshape id base points) = Some word.Reshape
-row_word (edit.Attrs id base attrs) = Some word.Attrs
-row_word (edit.Kind id base kind) = Some word.Kind
-row_word (edit.Path id base path) = Some word.Path
-row_word (edit.Flow id base flow) = Some word.Flow
-row_word (edit.Ends id base ends) = Some word.Ends
-row_word (edit.Note id base note) = Some word.Note
-row_word (edit.Delete id base) = Some word.Delete
-row_word _ = None
-
--- each of the edits has one
-abbrev pub have_words : List Edit → Bool
-have_words es = list_all (λ e. is_some (row_word e)) es
+-- the edit is one of a row
+abbrev pub is_row_edit : Edit → Bool
+is_row_edit (edit.Insert kind points attrs flow ends note) = true
+is_row_edit (edit.Reshape id base points) = true
+is_row_edit (edit.Attrs id base attrs) = true
+is_row_edit (edit.Kind id base kind) = true
+is_row_edit (edit.Path id base path) = true
+is_row_edit (edit.Flow id base flow) = true
+is_row_edit (edit.Ends id base ends) = true
+is_row_edit (edit.Note id base note) = true
+is_row_edit (edit.Delete id base) = true
+is_row_edit _ = false
 
 -- the id of the row: a new one gets the next
 abbrev pub feature_of : ℕ → Edit → ℕ

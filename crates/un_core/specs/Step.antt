@@ -1,26 +1,21 @@
 -- What an accepted command does to the state.
-use Rattle.std.specs.Prelude.{ℕ, ◌+◌, List, [], ◌∷◌, ◌++◌, length}
+use Rattle.std.specs.Prelude.{ℕ, ◌+◌, List, [], ◌∷◌, ◌++◌, length, map, Option, None, Some}
 use Rattle.std.specs.List.{enumerate_from}
 use Rattle.un_geom.specs.Rectangle.{Rectangle}
-use Rattle.un_schema.specs.declared.rule.Rule.{Rule}
-use Rattle.un_schema.specs.Catalog.{Catalog}
 use Rattle.un_defs.specs.declared.edit.Edit.{Edit}
 use Rattle.un_defs.specs.declared.edit.Edit.TheVariants as edit
 use Rattle.un_defs.specs.Features.{Features}
 use Rattle.un_defs.specs.Change.{Setting, Next, changed, after}
 use Rattle.un_defs.specs.Stain.{stain}
+use Rattle.un_ask.specs.declared.request.Command.{Command}
+use Rattle.un_ask.specs.declared.request.Command.TheVariants as command
 use Rattle.un_store.specs.Edits.{settled}
 use Rattle.un_core.specs.State.{State}
 use Rattle.un_core.specs.Validation.{validated}
 
--- what an accepted command did
-pub data Event : Type 0 where
-  edits : Edit → Event
-  batches : List Edit → Event
-  validates : Rectangle → Event
-
+-- the names that edits look up: those of the schema, and those of the tiers
 abbrev pub setting : State → Setting
-setting s = record { catalog = s.catalog; tiers = [] }
+setting s = record { catalog = s.setup.schema; tiers = map (λ t. t.name) s.setup.tiers }
 
 -- what the next edit gives, which is made at a moment
 abbrev pub next_with : State → ℕ → Next
@@ -29,15 +24,9 @@ next_with s moment = record { feature = s.next_feature; association = s.next_ass
 abbrev pub next_of : State → Next
 next_of s = next_with s (s.version + 1)
 
--- the schema, with these rules in force
-abbrev pub with_rules : Catalog → List Rule → Catalog
-with_rules S rules = record S { rules = rules }
-
--- The state once an edit is made at a moment: its features are changed, and the schema's rules with them, and its rectangles are the next
--- dirty areas. The version stays.
+-- the state once an edit is made at a moment: its features are changed, and its rectangles are the next dirty areas; the version stays
 abbrev pub made_at : ℕ → State → Edit → State
 made_at moment s e = record s {
-  catalog = with_rules s.catalog (changed (setting s) (next_with s moment) s.features e).rules;
   features = changed (setting s) (next_with s moment) s.features e;
   areas = s.areas ++ enumerate_from s.next_area (stain s.features e);
   next_feature = (after (next_with s moment) e).feature;
@@ -107,9 +96,23 @@ batched s es = record (made_by_all s es) {
   version = s.version + 1;
 }
 
--- ---- all
+-- ---- all commands
 
-abbrev pub step : State → Event → State
-step s (edits e) = edited s e
-step s (batches es) = batched s es
-step s (validates extent) = validated s extent
+-- The state after an accepted command, whose version is one more. No rule is added and no subnetwork updated yet: no such command is
+-- accepted.
+abbrev pub next_state : State → Command → State
+next_state s (command.Edit e) = edited s e
+next_state s (command.Batch es) = batched s es
+next_state s (command.Validate extent) = validated s extent
+next_state s _ = record s { version = s.version + 1 }
+
+-- the rectangles that it makes dirty, in order
+abbrev pub stain_of : State → Command → List Rectangle
+stain_of s (command.Edit e) = stain s.features e
+stain_of s (command.Batch es) = stain_of_batch s es
+stain_of s _ = []
+
+-- the extent that it validates, if it is a validation
+abbrev pub extent_of : Command → Option Rectangle
+extent_of (command.Validate extent) = Some extent
+extent_of _ = None

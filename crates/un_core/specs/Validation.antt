@@ -30,7 +30,7 @@ by_point a b = point_cmp a.0 b.0
 -- what is kept outside the areas, and the fresh topology under them
 abbrev pub rebuilt : State → List (ℕ × Rectangle) → List (Point × Star)
 rebuilt s areas = rising by_point
-    (filter (λ pair. not (is_under areas pair.0)) s.kept ++ filter (λ pair. is_under areas pair.0) (fresh s.catalog s.features))
+    (filter (λ pair. not (is_under areas pair.0)) s.kept ++ filter (λ pair. is_under areas pair.0) (fresh s.setup.schema s.features))
 
 -- the state after a validation: the areas that meet the extent are gone, and under them the topology is fresh
 abbrev pub validated : State → Rectangle → State

@@ -18,14 +18,19 @@ abbrev pub reached_within : (Node → Node → Bool) → List Node → ℕ → L
 reached_within step all zero starts = starts
 reached_within step all (suc k) starts = one_further step all (reached_within step all k starts)
 
--- what walks reach, rising: none needs more steps than there are nodes
+-- the nodes that walks reach, sorted: none needs more steps than there are nodes
 abbrev pub reached_in : (Node → Node → Bool) → List Node → List Node → List Node
 reached_in step all starts = rising node_cmp (reached_within step all (length all) starts)
+
+-- a topology with the dirty areas, and points among which are all that have a star
+pub record Survey : Type 0 where
+  pub topology : Ground
+  pub points : List Point
 
 -- the nodes to which the entries of a star have links
 abbrev pub linked_at : Ground → Point → List Node
 linked_at G p = flat_map (λ s. map (λ t. t.to) s.ties) (G.stars p).spots
 
--- what walks over a ground reach, whose stars stand at these points
-abbrev pub reached : Ground → List Point → Barriers → Mode → List Node → List Node
-reached G points B mode starts = reached_in (leads G B mode) (flat_map (linked_at G) points) starts
+-- the nodes that walks over a ground reach
+abbrev pub reached : Survey → Barriers → Mode → List Node → List Node
+reached v B mode starts = reached_in (leads v.topology B mode) (flat_map (linked_at v.topology) v.points) starts

@@ -2,7 +2,9 @@
 ghost use Rattle.std.specs.Prelude.{◌≡◌, ◌+◌, ◌*◌, ◌≤◌, length, None, IfOk, OnOk};
 ghost use Rattle.un_ask.specs.declared.query.Asked.TheVariants.{Trace};
 ghost use Rattle.un_trace.specs.Told.{MayTell};
-ghost use Rattle.un_core.specs.Answers.{untaken, untaken_member, query_due, refused, at_version, connected_from, traced_kept, traced, asked, answer, reached_kept, reached_by};
+ghost use Rattle.un_core.specs.Cover.{IsState};
+ghost use Rattle.un_core.specs.Listed.{errors_in};
+ghost use Rattle.un_core.specs.Answers.{untaken, untaken_member, query_due, refused, at_version, connected_from, kept_survey, kept_basis, fresh_basis, reached_from, traced, connected, asked_on, answer_on, answer, reached_by};
 
 use crate::kept::Kept;
 use crate::net::Net;
@@ -113,15 +115,17 @@ fn connected_from(alloc: Global, ask: &TraceAsk, starts: Vec<Node>) -> Result<Ty
 impl Net {
     /// The first refusal of a query.
     fn query_due(&self, query: &Query) -> Option<Refusal>
-        ensures { result ≡ query_due self.now query.now }
+        ensures due { result ≡ query_due self.now query.now }
+        ensures state { IsState self.now }
     {
+        let latest = self.version;
         if let Some(refusal) = untaken(&query.what) {
             return Some(refusal);
         }
-        if query.seen > self.version {
+        if query.seen > latest {
             return Some(Refusal::Ahead {
                 seen: query.seen,
-                latest: self.version,
+                latest,
             });
         }
         None
@@ -158,8 +162,8 @@ impl Net {
     ) -> Result<Reply, AllocError>
         requires kind { MayTell ask.now.kind ask.now.barriers.tier }
         requires plain { ask.now.barriers.tier ≡ None }
-        ensures reply { IfOk result (λ reply. reply ≡ traced_kept self.now ask.now) }
-        ensures ticks { OnOk result (steps.new ≤ steps.old + 2 * length (reached_kept self.now ask.now)) }
+        ensures reply { IfOk result (λ reply. reply ≡ traced (kept_survey self.now) ask.now) }
+        ensures ticks { OnOk result (steps.new ≤ steps.old + 2 * length (reached_from (kept_survey self.now) ask.now)) }
     {
         let kept = self.kept();
         trace(alloc, &kept, ask, steps)
@@ -172,7 +176,7 @@ impl Net {
         ask: &TraceAsk,
         steps: &mut Steps<L>,
     ) -> Result<Reply, AllocError>
-        ensures reply { IfOk result (λ reply. reply ≡ traced self.now ask.now) }
+        ensures reply { IfOk result (λ reply. reply ≡ connected self.now (kept_basis self.now) ask.now) }
         ensures ticks { OnOk result (steps.new ≤ steps.old + 2 * length (reached_by self.now (Trace ask.now))) }
     {
         let starts = match self.start_nodes(alloc, ask.starts.as_slice())? {
@@ -184,6 +188,13 @@ impl Net {
         Ok(at_version(told, self.version))
     }
 
+    /// The errors of the kept topology at the points that the extent covers.
+    fn errors(&self, alloc: Global, extent: Rect) -> Result<PlacedErrors, AllocError>
+        ensures { IfOk result (λ errors. errors ≡ errors_in (kept_survey self.now) extent) }
+    {
+        Ok(PlacedErrors::new(self.kept.errors(alloc, extent)?))
+    }
+
     /// What is asked, where the query is not refused before.
     fn told<L>(
         &self,
@@ -192,7 +203,7 @@ impl Net {
         steps: &mut Steps<L>,
     ) -> Result<Reply, AllocError>
         requires taken { untaken what.now ≡ None }
-        ensures reply { IfOk result (λ reply. reply ≡ asked self.now what.now) }
+        ensures reply { IfOk result (λ reply. reply ≡ asked_on self.now (kept_basis self.now) what.now) }
         ensures ticks { OnOk result (steps.new ≤ steps.old + 2 * length (reached_by self.now what.now)) }
     {
         let version = self.version;
@@ -204,7 +215,7 @@ impl Net {
                 version,
             }),
             Asked::Errors { extent } => Ok(Reply::Errors {
-                errors: PlacedErrors::new(self.kept.errors(alloc, *extent)?),
+                errors: self.errors(alloc, *extent)?,
                 version,
             }),
             Asked::Trace(ask) => self.traced(alloc, ask, steps),
@@ -226,6 +237,8 @@ impl Net {
         steps: &mut Steps<L>,
     ) -> Result<Reply, AllocError>
         ensures reply { IfOk result (λ reply. reply ≡ answer self.now query.now) }
+        // A consistent trace is answered as over all features.
+        ensures fresh { IfOk result (λ reply. reply ≡ answer_on self.now (fresh_basis self.now) query.now) }
         // For each node that a trace reaches, one star is looked up for the walk and one for the answer.
         ensures ticks { OnOk result (steps.new ≤ steps.old + 2 * length (reached_by self.now query.now.what)) }
     {

@@ -1,31 +1,25 @@
 //! Commands.
 ghost use Rattle.std.specs.Prelude.{◌≡◌, ◌+◌, ◌-◌, ◌≤◌, length, true, Some, None, IfOk};
+ghost use Rattle.std.specs.List.{list_all};
+ghost use Rattle.std.proofs.Common.{inr};
 ghost use Rattle.un_schema.specs.declared.place.Place.TheVariants as place;
 ghost use Rattle.un_defs.specs.declared.refusal.Refusal.TheVariants as refusal;
 ghost use Rattle.un_ask.specs.declared.request.Command.TheVariants as command;
 ghost use Rattle.un_ask.specs.declared.reply.Reply.TheVariants as reply;
-ghost use Rattle.un_core.specs.declared.apply.Applied.TheVariants as applied;
-ghost use Rattle.un_core.specs.RowEdits.{row_word, have_words};
-ghost use Rattle.un_core.specs.Commands.{first_and_count, IsApplied};
+ghost use Rattle.un_core.specs.RowEdits.{is_row_edit};
+ghost use Rattle.un_core.specs.Commands.{is_known, word_of, first_and_count, step};
+ghost use Rattle.un_machine.specs.Logs.{answer_of};
 
 use crate::batch::{BatchFault, Batched};
-use crate::edit::feature_of;
+use crate::edit::{Edited, feature_of};
 use crate::net::Net;
 use crate::validate::Validated;
 use std::alloc::{AllocError, Global};
 use un_ask::{Command, EditWord, Reply};
 use un_defs::{Edit, Ids, Refusal};
 use un_geom::Rect;
-use un_schema::Place;
-
-/// What became of a command.
-#[derive(Drop)]
-pub enum Applied {
-    /// It is done: the next state, and the reply.
-    Done { net: Net, reply: Reply },
-    /// It is refused, and the state stays.
-    Refused { reply: Reply },
-}
+use un_machine::{Applied, Entry, Machine};
+use un_schema::{Items, Place};
 
 // The number of the first of so many areas, and how many they are.
 fn first_and_count(first: u64, count: u64) -> [u64; 2]
@@ -35,8 +29,8 @@ fn first_and_count(first: u64, count: u64) -> [u64; 2]
 }
 
 // A refusal at a version; of a batch also the place of the edit that is refused.
-fn refused(version: u64, place: Option<u64>, refusal: Refusal) -> Applied
-    ensures { result ≡ applied.Refused (reply.Refused refusal place version) }
+fn refused(version: u64, place: Option<u64>, refusal: Refusal) -> Applied<Net>
+    ensures { answer_of result ≡ inr (reply.Refused refusal place version) }
 {
     Applied::Refused {
         reply: Reply::Refused {
@@ -47,9 +41,9 @@ fn refused(version: u64, place: Option<u64>, refusal: Refusal) -> Applied
     }
 }
 
-// The word of an edit of a row.
-fn row_word(edit: &Edit) -> Option<EditWord>
-    ensures { result ≡ row_word edit.now }
+// The word of an edit; a rule has none.
+fn word_of(edit: &Edit) -> Option<EditWord>
+    ensures { result ≡ word_of edit.now }
 {
     match edit {
         Edit::Insert { .. } => Some(EditWord::Insert),
@@ -61,21 +55,51 @@ fn row_word(edit: &Edit) -> Option<EditWord>
         Edit::Ends { .. } => Some(EditWord::Ends),
         Edit::Note { .. } => Some(EditWord::Note),
         Edit::Delete { .. } => Some(EditWord::Delete),
-        Edit::Connect { .. }
-        | Edit::Contain { .. }
-        | Edit::Attach { .. }
-        | Edit::Detach { .. }
-        | Edit::Controller { .. }
-        | Edit::Uncontroller { .. }
-        | Edit::Rule { .. } => None,
+        Edit::Connect { .. } => Some(EditWord::Connect),
+        Edit::Contain { .. } => Some(EditWord::Contain),
+        Edit::Attach { .. } => Some(EditWord::Attach),
+        Edit::Detach { .. } => Some(EditWord::Detach),
+        Edit::Controller { .. } => Some(EditWord::Controller),
+        Edit::Uncontroller { .. } => Some(EditWord::Uncontroller),
+        Edit::Rule { .. } => None,
     }
 }
 
-// Whether each of the edits is one of a row.
-fn are_of_rows(edits: &[Edit]) -> bool
-    ensures { result ≡ have_words edits.now }
+// Whether the edit is one of a row.
+fn is_row_edit(edit: &Edit) -> bool
+    ensures { result ≡ is_row_edit edit.now }
 {
-    edits.iter().all(|edit| row_word(edit).is_some())
+    matches!(
+        edit,
+        Edit::Insert { .. }
+            | Edit::Reshape { .. }
+            | Edit::Attrs { .. }
+            | Edit::Kind { .. }
+            | Edit::Path { .. }
+            | Edit::Flow { .. }
+            | Edit::Ends { .. }
+            | Edit::Note { .. }
+            | Edit::Delete { .. }
+    )
+}
+
+// Whether each of the edits is one of a row.
+fn are_row_edits(edits: &[Edit]) -> bool
+    ensures { result ≡ list_all is_row_edit edits.now }
+{
+    edits.iter().all(|edit| is_row_edit(edit))
+}
+
+// Whether the command is one that may be asked for yet.
+fn is_known(command: &Command) -> bool
+    ensures { result ≡ is_known command.now }
+{
+    match command {
+        Command::Edit(edit) => is_row_edit(edit),
+        Command::Batch(edits) => are_row_edits(edits.as_slice()),
+        Command::Validate { .. } => true,
+        Command::Rule { .. } | Command::Update { .. } => false,
+    }
 }
 
 impl Net {
@@ -88,20 +112,27 @@ impl Net {
         first_and_count(first, later.dirty.next_number() - first)
     }
 
-    // An edit of a row, by its word.
-    fn apply_edit(&self, alloc: Global, edit: &Edit, word: EditWord) -> Result<Applied, AllocError>
-        requires { row_word edit.now ≡ Some word }
-        ensures { IfOk result (IsApplied self.now (command.Edit edit.now)) }
+    // An edit of a row.
+    fn apply_edit(&self, alloc: Global, edit: &Edit) -> Result<Applied<Net>, AllocError>
+        requires known { is_row_edit edit.now ≡ true }
+        ensures { IfOk result (λ a. answer_of a ≡ step self.now (command.Edit edit.now)) }
     {
+        let Some(word) = word_of(edit) else {
+            unreachable!()
+        };
         match self.edit(alloc, edit) {
-            Ok(net) => {
+            Ok(Edited { net, dirtied }) => {
                 let reply = Reply::Edited {
                     areas: self.areas_made(&net),
                     id: feature_of(edit, self.next_feature),
                     word,
                     version: net.version,
                 };
-                Ok(Applied::Done { net, reply })
+                Ok(Applied::Done {
+                    next: net,
+                    reply,
+                    mark: Items::new(dirtied),
+                })
             }
             Err(Refusal::Memory) => Err(AllocError),
             Err(refusal) => Ok(refused(self.version, None, refusal)),
@@ -109,19 +140,23 @@ impl Net {
     }
 
     // A batch of edits of rows.
-    fn apply_batch(&self, alloc: Global, edits: &[Edit]) -> Result<Applied, AllocError>
-        requires words { have_words edits.now ≡ true }
+    fn apply_batch(&self, alloc: Global, edits: &[Edit]) -> Result<Applied<Net>, AllocError>
+        requires known { list_all is_row_edit edits.now ≡ true }
         requires few { length edits.now ≤ 256 }
-        ensures { IfOk result (IsApplied self.now (command.Batch edits.now)) }
+        ensures { IfOk result (λ a. answer_of a ≡ step self.now (command.Batch edits.now)) }
     {
         match self.batch(alloc, edits) {
-            Ok(Batched { net, ids }) => {
+            Ok(Batched { net, ids, dirtied }) => {
                 let reply = Reply::Batch {
                     areas: self.areas_made(&net),
                     ids: Ids::new(ids),
                     version: net.version,
                 };
-                Ok(Applied::Done { net, reply })
+                Ok(Applied::Done {
+                    next: net,
+                    reply,
+                    mark: Items::new(dirtied),
+                })
             }
             Err(
                 BatchFault {
@@ -134,8 +169,8 @@ impl Net {
     }
 
     // A validation.
-    fn apply_validate(&self, alloc: Global, extent: Rect) -> Result<Applied, AllocError>
-        ensures { IfOk result (IsApplied self.now (command.Validate extent)) }
+    fn apply_validate(&self, alloc: Global, extent: Rect) -> Result<Applied<Net>, AllocError>
+        ensures { IfOk result (λ a. answer_of a ≡ step self.now (command.Validate extent)) }
     {
         match self.validate(alloc, extent) {
             Ok(
@@ -150,39 +185,78 @@ impl Net {
                     errors,
                     version: net.version,
                 };
-                Ok(Applied::Done { net, reply })
+                Ok(Applied::Done {
+                    next: net,
+                    reply,
+                    mark: Items::new(Vec::new(alloc)),
+                })
             }
             Err(Refusal::Memory) => Err(AllocError),
             Err(refusal) => Ok(refused(self.version, None, refusal)),
         }
     }
 
-    // A command that may not be asked for yet.
-    fn not_yet(&self) -> Applied
-        ensures { result ≡ applied.Refused (reply.Refused (refusal.BadRequest place.Do) None self.now.version) }
-    {
-        refused(self.version, None, Refusal::BadRequest { place: Place::Do })
-    }
-
-    /// What becomes of a command. Want of memory changes nothing.
-    pub fn apply(&self, alloc: Global, command: &Command) -> Result<Applied, AllocError>
-        ensures { IfOk result (IsApplied self.now command.now) }
+    // A command that is known.
+    fn apply_known(&self, alloc: Global, command: &Command) -> Result<Applied<Net>, AllocError>
+        requires known { is_known command.now ≡ true }
+        ensures { IfOk result (λ a. answer_of a ≡ step self.now command.now) }
     {
         match command {
-            Command::Edit(edit) => match row_word(edit) {
-                Some(word) => self.apply_edit(alloc, edit, word),
-                None => Ok(self.not_yet()),
-            },
+            Command::Edit(edit) => self.apply_edit(alloc, edit),
+            Command::Batch(edits) => self.apply_batch(alloc, edits.as_slice()),
             Command::Validate { extent } => self.apply_validate(alloc, *extent),
-            Command::Batch(edits) => {
-                let edits = edits.as_slice();
-                if are_of_rows(edits) {
-                    self.apply_batch(alloc, edits)
-                } else {
-                    Ok(self.not_yet())
-                }
-            }
-            Command::Rule { .. } | Command::Update { .. } => Ok(self.not_yet()),
+            Command::Rule { .. } | Command::Update { .. } => unreachable!(),
         }
+    }
+
+    /// The step of a command: the next network, the reply and the rectangles that it made dirty, or the reply of a refusal.
+    ///
+    /// A command whose word is not taken yet is refused by `BadRequest`. It answers an error only for want of memory, which changes
+    /// nothing.
+    pub fn step(&self, alloc: Global, command: &Command) -> Result<Applied<Net>, AllocError>
+        ensures { IfOk result (λ a. answer_of a ≡ step self.now command.now) }
+    {
+        if is_known(command) {
+            self.apply_known(alloc, command)
+        } else {
+            Ok(refused(self.version, None, Refusal::BadRequest { place: Place::Do }))
+        }
+    }
+}
+
+/// A network steps by commands. It takes no hints, and the mark of a command is the rectangles that it made dirty, in order.
+impl Machine for Net {
+    ghost use Rattle.un_core.specs.Commands.{step};
+
+    type Cmd = Command;
+
+    type Reply = Reply;
+
+    type Hint = ();
+
+    type Mark = Items<Rect>;
+
+    ghost step = { step };
+
+    ghost prepared = { λ h s. Unit {0} };
+
+    ghost place = { λ h. 0 };
+
+    fn apply(
+        &self,
+        alloc: Global,
+        cmd: &Command,
+        _hint: Option<&()>,
+        _since: &[Entry<Net>],
+    ) -> Result<Applied<Net>, AllocError> {
+        self.step(alloc, cmd)
+    }
+
+    fn prepared_at(_hint: &()) -> u64 {
+        0
+    }
+
+    fn copy_reply(alloc: Global, reply: &Reply) -> Result<Reply, AllocError> {
+        reply.copy(alloc)
     }
 }

@@ -3,20 +3,21 @@ ghost use Rattle.std.specs.Prelude.{◌≡◌, ◌≢◌, ◌<◌, ◌≤◌, le
 ghost use Rattle.std.specs.Option.{option_map};
 ghost use Rattle.un_defs.specs.declared.refusal.Refusal.TheVariants.{Memory};
 ghost use Rattle.un_store.specs.Words.{IsRowEdit};
-ghost use Rattle.un_core.specs.Step.{batches, made_by_all, ids_of_all, batched};
-ghost use Rattle.un_core.specs.Cover.{MayAllBeMade, MayHappen};
+ghost use Rattle.un_core.specs.Step.{made_by_all, ids_of_all, stain_of_batch, batched};
+ghost use Rattle.un_core.specs.Cover.{MayAllBeMade};
 ghost use Rattle.un_core.specs.Refusals.{first_refused, batch_due, refused_place};
 
 use crate::edit::feature_of;
 use crate::net::Net;
 use std::alloc::{AllocError, Global};
 use un_defs::{Edit, Refusal};
+use un_geom::Rect;
 
 /// Why a batch is not made: the refusal, and the place of the edit that is refused, from 0; none where the numbers are used up.
 #[derive(Drop)]
-pub struct BatchFault {
-    pub place: Option<u64>,
-    pub refusal: Refusal,
+pub(crate) struct BatchFault {
+    pub(crate) place: Option<u64>,
+    pub(crate) refusal: Refusal,
 }
 
 impl From<AllocError> for BatchFault {
@@ -34,11 +35,12 @@ impl From<AllocError> for BatchFault {
     }
 }
 
-/// A network once a batch is made, with the id that the reply tells of each edit.
+/// A network once a batch is made, with the id that the reply tells of each edit and the rectangles that they make dirty.
 #[derive(Drop)]
-pub struct Batched {
-    pub net: Net,
-    pub ids: Vec<u64>,
+pub(crate) struct Batched {
+    pub(crate) net: Net,
+    pub(crate) ids: Vec<u64>,
+    pub(crate) dirtied: Vec<Rect>,
 }
 
 impl Net {
@@ -47,7 +49,7 @@ impl Net {
         ensures { IfOk result (λ net. net ≡ self.now) }
     {
         Ok(Net {
-            schema: self.schema.clone()?,
+            setup: self.setup.clone()?,
             rows: self.rows.share()?,
             grid: self.grid.share()?,
             kept: self.kept.share()?,
@@ -66,6 +68,7 @@ impl Net {
         requires area { self.now.next_area < 9_000_000_000_000_000 }
         ensures state { IfOk result (λ b. b.net ≡ made_by_all self.now edits.now) }
         ensures ids { IfOk result (λ b. b.ids.items ≡ ids_of_all self.now edits.now) }
+        ensures dirtied { IfOk result (λ b. b.dirtied.items ≡ stain_of_batch self.now edits.now) }
         ensures may { OnOk result (MayAllBeMade self.now edits.now) }
         ensures good { OnOk result (first_refused self.now 0 edits.now ≡ None) }
         ensures bad { IfErr result (λ f. f.refusal ≢ Memory →
@@ -73,10 +76,14 @@ impl Net {
     {
         let mut net = self.share()?;
         let mut ids = Vec::with_capacity(alloc, edits.len())?;
+        let mut dirtied = Vec::new(alloc);
         for (place, edit) in edits.iter().enumerate() {
             ids.push_reserved(feature_of(edit, net.next_feature));
             match net.make(alloc, edit, 0) {
-                Ok(next) => net = next,
+                Ok(made) => {
+                    dirtied.extend_from_slice(&made.dirtied)?;
+                    net = made.net;
+                }
                 Err(refusal) => {
                     return Err(BatchFault {
                         place: Some(place as u64),
@@ -85,7 +92,7 @@ impl Net {
                 }
             }
         }
-        Ok(Batched { net, ids })
+        Ok(Batched { net, ids, dirtied })
     }
 
     /// The network after a batch of edits of rows, which is one step.
@@ -94,12 +101,12 @@ impl Net {
     /// version after it.
     ///
     /// The batch is refused whole: by `Full` where the numbers are used up, and else as the first of its edits that is refused.
-    pub fn batch(&self, alloc: Global, edits: &[Edit]) -> Result<Batched, BatchFault>
+    pub(crate) fn batch(&self, alloc: Global, edits: &[Edit]) -> Result<Batched, BatchFault>
         requires word { All IsRowEdit edits.now }
         requires few { length edits.now ≤ 256 }
         ensures state { IfOk result (λ b. b.net ≡ batched self.now edits.now) }
         ensures ids { IfOk result (λ b. b.ids.items ≡ ids_of_all self.now edits.now) }
-        ensures may { OnOk result (MayHappen self.now (batches edits.now)) }
+        ensures dirtied { IfOk result (λ b. b.dirtied.items ≡ stain_of_batch self.now edits.now) }
         ensures good { OnOk result (batch_due self.now edits.now ≡ None) }
         ensures bad { IfErr result (λ f. f.refusal ≢ Memory → (batch_due self.now edits.now ≡ Some f.refusal) × (refused_place self.now edits.now ≡ f.place)) }
     {
@@ -110,9 +117,13 @@ impl Net {
             });
         }
         let moment = self.version + 1;
-        let Batched { mut net, ids } = self.make_all(alloc, edits)?;
+        let Batched {
+            mut net,
+            ids,
+            dirtied,
+        } = self.make_all(alloc, edits)?;
         net.rows = net.rows.settle(alloc, &ids, moment)?;
         net.version = moment;
-        Ok(Batched { net, ids })
+        Ok(Batched { net, ids, dirtied })
     }
 }

@@ -12,8 +12,7 @@ ghost use Rattle.un_dirty.specs.Areas.{added};
 ghost use Rattle.un_grid.specs.Grids.{IsGridOf, HasRow, LacksRow, HasInPlace};
 ghost use Rattle.un_core.specs.Held.{features_in, next_at};
 ghost use Rattle.un_core.specs.RowEdits.{feature_of, envelope_of_row, row_stain, HasPorts};
-ghost use Rattle.un_core.specs.Step.{setting, next_with, made_at, edits, edited};
-ghost use Rattle.un_core.specs.Cover.{MayHappen};
+ghost use Rattle.un_core.specs.Step.{setting, next_with, made_at, edited};
 ghost use Rattle.un_core.specs.Refusals.{beside_numbers, edit_due, too_many};
 
 use crate::live::Live;
@@ -25,12 +24,20 @@ use un_geom::Rect;
 use un_grid::Grid;
 use un_store::Store;
 
-/// What an edit of a row changes.
+/// What an edit of a row changes, and the rectangles that it makes dirty.
 #[derive(Drop)]
 struct Parts {
     rows: Store,
     grid: Grid,
     dirty: Dirty,
+    dirtied: Vec<Rect>,
+}
+
+/// A network once an edit is made, and the rectangles that it makes dirty.
+#[derive(Drop)]
+pub(crate) struct Edited {
+    pub(crate) net: Net,
+    pub(crate) dirtied: Vec<Rect>,
 }
 
 /// The id of the row that an edit makes or changes.
@@ -100,6 +107,20 @@ fn stain(edit: &Edit, before: Option<&Row>, after: Option<&Row>) -> (Option<Rect
     }
 }
 
+// These rectangles, as a list.
+fn rects(alloc: Global, first: Option<Rect>, second: Option<Rect>) -> Result<Vec<Rect>, AllocError>
+    ensures list { IfOk result (λ rects. rects.items ≡ option_to_list first ++ option_to_list second) }
+{
+    let mut rects = Vec::new(alloc);
+    if let Some(rect) = first {
+        rects.push(rect)?;
+    }
+    if let Some(rect) = second {
+        rects.push(rect)?;
+    }
+    Ok(rects)
+}
+
 // The areas with some more, of these rectangles.
 fn with_areas(dirty: &Dirty, alloc: Global, rects: &[Rect]) -> Result<Dirty, Refusal>
     requires next { dirty.now.next < 9_000_000_000_100_000 }
@@ -113,28 +134,6 @@ fn with_areas(dirty: &Dirty, alloc: Global, rects: &[Rect]) -> Result<Dirty, Ref
         Ok(dirty) => Ok(dirty),
         Err(DirtyFault::Full) => Err(Refusal::Full { what: Limit::Areas }),
         Err(DirtyFault::Memory) => Err(Refusal::Memory),
-    }
-}
-
-// The areas once an edit changed a row.
-fn with_stain(
-    dirty: &Dirty,
-    alloc: Global,
-    edit: &Edit,
-    before: Option<&Row>,
-    after: Option<&Row>,
-) -> Result<Dirty, Refusal>
-    requires next { dirty.now.next < 9_000_000_000_100_000 }
-    ensures list { IfOk result (λ d. d ≡ added dirty.now (row_stain edit.now (option_copied before.entry) (option_copied after.entry))) }
-    ensures good { OnOk result (too_many dirty.now.areas (row_stain edit.now (option_copied before.entry) (option_copied after.entry)) ≡ None) }
-    ensures bad { IfErr result (λ refusal. refusal ≢ Memory →
-        too_many dirty.now.areas (row_stain edit.now (option_copied before.entry) (option_copied after.entry)) ≡ Some refusal) }
-{
-    match stain(edit, before, after) {
-        (Some(first), Some(second)) => with_areas(dirty, alloc, &[first, second]),
-        (Some(rect), None) => with_areas(dirty, alloc, &[rect]),
-        (None, Some(rect)) => with_areas(dirty, alloc, &[rect]),
-        (None, None) => with_areas(dirty, alloc, &[]),
     }
 }
 
@@ -217,6 +216,8 @@ fn made(
     ensures features { IfOk result (λ m. features_in live.now.schema.now m.rows
         ≡ changed (setting_of live.now.schema.now) (next_at next moment) (features_in live.now.schema.now live.now.rows.now) edit.now) }
     ensures areas { IfOk result (λ m. m.dirty ≡ added dirty.now (stain (features_in live.now.schema.now live.now.rows.now) edit.now)) }
+    ensures dirtied { IfOk result (λ m. m.dirtied.items ≡ stain (features_in live.now.schema.now live.now.rows.now) edit.now) }
+    ensures few { IfOk result (λ m. length m.dirtied.items < 3) }
     ensures grid { IfOk result (λ m. IsGridOf m.grid (features_in live.now.schema.now m.rows)) }
     ensures good { OnOk result (first_due (refusal_of live.now.schema.now live.now.rows.now edit.now
         ∷ too_many dirty.now.areas (stain (features_in live.now.schema.now live.now.rows.now) edit.now) ∷ []) ≡ None) }
@@ -227,39 +228,51 @@ fn made(
     let id = feature_of(edit, next);
     let before = live.rows.row(id);
     let after = rows.row(id);
-    let dirty = with_stain(dirty, alloc, edit, before, after)?;
+    let (first, second) = stain(edit, before, after);
+    let dirtied = rects(alloc, first, second)?;
+    let dirty = with_areas(dirty, alloc, &dirtied)?;
     let grid = with_ports(live.grid, alloc, edit, before, after)?;
-    Ok(Parts { rows, grid, dirty })
+    Ok(Parts {
+        rows,
+        grid,
+        dirty,
+        dirtied,
+    })
 }
 
 impl Net {
     // The network once an edit of a row is made at a moment. The version stays, and the numbers are not looked at.
-    pub(crate) fn make(&self, alloc: Global, edit: &Edit, moment: u64) -> Result<Net, Refusal>
+    pub(crate) fn make(&self, alloc: Global, edit: &Edit, moment: u64) -> Result<Edited, Refusal>
         requires word { IsRowEdit edit.now }
         requires feature { self.now.next_feature < 9_000_000_000_100_000 }
         requires area { self.now.next_area < 9_000_000_000_100_000 }
-        ensures state { IfOk result (λ net. net ≡ made_at moment self.now edit.now) }
-        ensures next { IfOk result (λ net. net.next_feature ≤ self.now.next_feature + 1) }
-        ensures few { IfOk result (λ net. net.next_area ≤ self.now.next_area + 2) }
+        ensures state { IfOk result (λ m. m.net ≡ made_at moment self.now edit.now) }
+        ensures dirtied { IfOk result (λ m. m.dirtied.items ≡ stain self.now.features edit.now) }
+        ensures next { IfOk result (λ m. m.net.next_feature ≤ self.now.next_feature + 1) }
+        ensures few { IfOk result (λ m. m.net.next_area ≤ self.now.next_area + 2) }
         ensures may { OnOk result (MayBeMade (setting self.now) (next_with self.now moment) self.now.features edit.now) }
         ensures good { OnOk result (first_due (beside_numbers self.now edit.now) ≡ None) }
         ensures bad { IfErr result (λ refusal. refusal ≢ Memory → first_due (beside_numbers self.now edit.now) ≡ Some refusal) }
     {
-        let _rules = self.schema.rules();
+        let _rules = self.setup.schema.rules();
         let live = Live {
-            schema: &self.schema,
+            schema: &self.setup.schema,
             rows: &self.rows,
             grid: &self.grid,
         };
         let parts = made(alloc, &live, &self.dirty, edit, self.next_feature, moment)?;
-        Ok(Net {
-            schema: self.schema.clone()?,
+        let net = Net {
+            setup: self.setup.clone()?,
             rows: parts.rows,
             grid: parts.grid,
             kept: self.kept.share()?,
             dirty: parts.dirty,
             version: self.version,
             next_feature: next_after(edit, self.next_feature),
+        };
+        Ok(Edited {
+            net,
+            dirtied: parts.dirtied,
         })
     }
 
@@ -274,17 +287,17 @@ impl Net {
     /// by `NoSuchFeature`, then by `Moved`, and then by its word: a reshape by `BadShape`; attributes by `BadAttribute`; a kind by
     /// `NoSuchKind`, and by `WrongKind` where it is of another class; a path by `BadPath`; flow and ends by `WrongKind`, where the row is no
     /// line.
-    pub fn edit(&self, alloc: Global, edit: &Edit) -> Result<Net, Refusal>
+    pub(crate) fn edit(&self, alloc: Global, edit: &Edit) -> Result<Edited, Refusal>
         requires word { IsRowEdit edit.now }
-        ensures state { IfOk result (λ net. net ≡ edited self.now edit.now) }
-        ensures may { OnOk result (MayHappen self.now (edits edit.now)) }
+        ensures state { IfOk result (λ m. m.net ≡ edited self.now edit.now) }
+        ensures dirtied { IfOk result (λ m. m.dirtied.items ≡ stain self.now.features edit.now) }
         ensures good { OnOk result (edit_due self.now edit.now ≡ None) }
         ensures bad { IfErr result (λ refusal. refusal ≢ Memory → edit_due self.now edit.now ≡ Some refusal) }
     {
         self.check_numbers()?;
         let moment = self.version + 1;
-        let mut net = self.make(alloc, edit, moment)?;
+        let Edited { mut net, dirtied } = self.make(alloc, edit, moment)?;
         net.version = moment;
-        Ok(net)
+        Ok(Edited { net, dirtied })
     }
 }

@@ -120,12 +120,12 @@ impl Net {
     pub(crate) fn feature(&self, alloc: Global, id: u64) -> Result<Reply, AllocError>
         ensures { IfOk result (λ reply. reply ≡ feature_reply self.now id) }
     {
-        let _rules = self.schema.rules();
+        let _rules = self.setup.schema.rules();
         let Some(row) = self.rows.row(id) else {
             return Ok(self.refused(Refusal::NoSuchFeature { id }));
         };
         Ok(Reply::Feature {
-            feature: feature_told(alloc, &self.schema, row)?,
+            feature: feature_told(alloc, &self.setup.schema, row)?,
             version: self.version,
         })
     }

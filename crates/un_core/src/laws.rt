@@ -1,29 +1,36 @@
 //! What holds of every state, each as what a function ensures that does nothing.
 
+ghost use Rattle.un_core.specs.Commands.{StepLaw};
 ghost use Rattle.un_core.specs.Cover.{CoverLaw, HistoryLaw};
-ghost use Rattle.un_core.specs.Traces.{FreshTraceLaw, HistoryTraceLaw};
+ghost use Rattle.un_core.specs.Walks.{WalkLaw, TwoGroundsLaw};
 
 /// Each point that no dirty area covers has its fresh star, whatever commands were accepted.
-#[tactic(auto, using(crate::proofs::CoverKept::cover_is_kept))]
 pub fn cover_is_kept()
     ensures { CoverLaw }
 {}
 
-/// The topology that is kept and the dirty areas are those that the accepted commands alone tell.
+/// The kept topology and the dirty areas are determined by the accepted commands.
 #[tactic(auto, using(crate::proofs::HistoryKept::kept_is_history))]
 pub fn kept_is_history()
     ensures { HistoryLaw }
 {}
 
-/// In consistent mode a trace is answered over what is kept as over the stars of all features: by the same result, or by the same refusal
-/// for dirt.
-#[tactic(auto, using(crate::proofs::Traces::fresh_trace))]
-pub fn consistent_trace_is_fresh()
-    ensures { FreshTraceLaw }
+/// The nodes that a trace is said to reach are exactly those in which a walk ends, over the kept topology, over all features and over what
+/// a history leaves; and the errors that are listed are exactly those of the stars.
+#[tactic(auto, using(crate::proofs::Exact::walks_are_exact))]
+pub fn walks_are_exact()
+    ensures { WalkLaw }
 {}
 
-/// A trace is answered by what the accepted commands alone tell, in either mode.
-#[tactic(auto, using(crate::proofs::Traces::history_trace))]
-pub fn trace_is_of_history()
-    ensures { HistoryTraceLaw }
+/// A consistent trace over the kept topology answers as it does over all features: by the same result, or by the same refusal for dirty
+/// ground.
+#[tactic(auto, using(crate::proofs::HistoryAnswers::two_grounds))]
+pub fn two_grounds()
+    ensures { TwoGroundsLaw }
+{}
+
+/// What a step gives is the reply to its command and the state after it; the reply is one of a command, and short.
+#[tactic(auto, using(crate::proofs::Stepping::steps_reply))]
+pub fn steps_reply()
+    ensures { StepLaw }
 {}

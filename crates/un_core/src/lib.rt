@@ -1,9 +1,9 @@
 //! The state of a network: what commands do to it, and what queries answer of it.
 #![tactic(auto)]
 
-pub mod answer;
-pub mod apply;
-pub mod batch;
+mod answer;
+mod apply;
+mod batch;
 mod edit;
 mod feature;
 pub mod histories;
@@ -12,10 +12,9 @@ pub mod laws;
 mod live;
 pub mod net;
 mod points;
+pub mod setup;
 mod starts;
-pub mod validate;
+mod validate;
 
-pub use apply::Applied;
-pub use batch::{BatchFault, Batched};
 pub use net::Net;
-pub use validate::Validated;
+pub use setup::Setup;

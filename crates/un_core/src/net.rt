@@ -4,6 +4,7 @@ ghost use Rattle.un_core.specs.State.{State, opening};
 ghost use Rattle.un_core.specs.Cover.{IsState};
 ghost use Rattle.un_core.specs.Refusals.{numbers_due};
 
+use crate::setup::Setup;
 use std::alloc::{AllocError, Global};
 use std::marker::Model;
 use std::sync::Arc;
@@ -13,14 +14,15 @@ use un_grid::Grid;
 use un_index::Index;
 use un_schema::Schema;
 use un_store::Store;
+use un_tiers::Tiers;
 
 /// From here on a version, an id or an area's number is none.
 const LAST_NUMBER: u64 = 9_000_000_000_000_000;
 
-/// The state of a network. It never changes: what a command does to it is a new one, which shares with it what stays.
+/// The state of a network. It never changes: a command that is accepted gives a new one, which shares with it what stays.
 #[derive(Drop)]
 pub struct Net {
-    pub(crate) schema: Arc<Schema>,
+    pub(crate) setup: Arc<Setup>,
     pub(crate) rows: Store,
     pub(crate) grid: Grid,
     pub(crate) kept: Index,
@@ -39,20 +41,25 @@ impl Model for Net {
 
     ghost Value = { State };
 
-    ghost view = { λ n. held (arc_value n.schema) n.rows n.kept n.dirty n.version n.next_feature };
+    ghost use Rattle.std.specs.Coded.{codes};
+    ghost use Rattle.un_core.specs.contracts.setup.Setup as setup_row;
 
-    ghost invariant = { λ n. IsState (held (arc_value n.schema) n.rows n.kept n.dirty n.version n.next_feature)
-        × IsGridOf n.grid (features_in (arc_value n.schema) n.rows)
-        × HaveAttributes (arc_value n.schema) n.rows };
+    ghost coded = { Prim.hlevel (codes, setup_row.the_row.coded) };
+
+    ghost view = { λ n. held (arc_value n.setup) n.rows n.kept n.dirty n.version n.next_feature };
+
+    ghost invariant = { λ n. IsState (held (arc_value n.setup) n.rows n.kept n.dirty n.version n.next_feature)
+        × IsGridOf n.grid (features_in (arc_value n.setup).schema n.rows)
+        × HaveAttributes (arc_value n.setup).schema n.rows };
 }
 
 impl Net {
-    /// The network without features under a schema.
-    pub fn open(alloc: Global, schema: Schema) -> Result<Net, AllocError>
-        ensures { IfOk result (λ net. net ≡ opening schema) }
+    /// The network without features under a schema and tiers.
+    pub fn open(alloc: Global, schema: Schema, tiers: Tiers) -> Result<Net, AllocError>
+        ensures { IfOk result (λ net. net ≡ opening (record { schema = schema; tiers = tiers })) }
     {
         Ok(Net {
-            schema: Arc::new(alloc, schema)?,
+            setup: Arc::new(alloc, Setup { schema, tiers })?,
             rows: Store::new(alloc),
             grid: Grid::new(alloc),
             kept: Index::new(alloc),

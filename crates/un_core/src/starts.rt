@@ -1,6 +1,7 @@
 //! The nodes at which a trace starts.
-ghost use Rattle.std.specs.Prelude.{◌≡◌, Some, None, IfOk, OnOk, IfErr};
-ghost use Rattle.un_core.specs.Answers.{start_node, start_nodes, start_due, starts_due};
+ghost use Rattle.std.specs.Prelude.{◌≡◌, map, Some, None, IfOk, OnOk, IfErr};
+ghost use Rattle.un_store.specs.Refusals.{first_due};
+ghost use Rattle.un_core.specs.Answers.{start_node, start_nodes, no_feature, no_start, starts_due};
 
 use crate::net::Net;
 use std::alloc::{AllocError, Global};
@@ -9,24 +10,51 @@ use un_grid::port_node;
 
 impl Net {
     /// The node of a port of a live row.
-    fn start_node(&self, start: Port) -> Result<Node, Refusal>
-        ensures node { IfOk result (λ node. start_node self.now start ≡ Some node) }
-        ensures good { OnOk result (start_due self.now start ≡ None) }
-        ensures bad { IfErr result (λ refusal. start_due self.now start ≡ Some refusal) }
+    fn start_node(&self, start: Port) -> Option<Node>
+        ensures { result ≡ start_node self.now start }
     {
-        let Some(row) = self.rows.row(start.feature) else {
-            return Err(Refusal::NoSuchFeature { id: start.feature });
-        };
-        match port_node(row, start.number) {
-            Some(node) => Ok(node),
-            None => Err(Refusal::NoStart {
-                feature: start.feature,
-                port: start.number,
-            }),
-        }
+        port_node(self.rows.row(start.feature)?, start.number)
     }
 
-    /// The nodes of the starts, in their order, or the refusal of the first that is none.
+    /// Refuses the first start whose feature is not live.
+    fn check_features(&self, starts: &[Port]) -> Result<(), Refusal>
+        ensures good { OnOk result (first_due (map (no_feature self.now) starts.now) ≡ None) }
+        ensures bad { IfErr result (λ refusal. first_due (map (no_feature self.now) starts.now) ≡ Some refusal) }
+    {
+        for start in starts {
+            if self.rows.row(start.feature).is_none() {
+                return Err(Refusal::NoSuchFeature { id: start.feature });
+            }
+        }
+        Ok(())
+    }
+
+    /// The nodes of the starts, in their order, or the refusal of the first whose feature has no such port.
+    fn nodes_of(
+        &self,
+        alloc: Global,
+        starts: &[Port],
+    ) -> Result<Result<Vec<Node>, Refusal>, AllocError>
+        ensures nodes { IfOk result (λ found. IfOk found (λ nodes. nodes.items ≡ start_nodes self.now starts.now)) }
+        ensures good { IfOk result (λ found. OnOk found (first_due (map (no_start self.now) starts.now) ≡ None)) }
+        ensures bad { IfOk result (λ found. IfErr found (λ refusal. first_due (map (no_start self.now) starts.now) ≡ Some refusal)) }
+    {
+        let mut nodes = Vec::new(alloc);
+        for start in starts {
+            match self.start_node(*start) {
+                Some(node) => nodes.push(node)?,
+                None => {
+                    return Ok(Err(Refusal::NoStart {
+                        feature: start.feature,
+                        port: start.number,
+                    }));
+                }
+            }
+        }
+        Ok(Ok(nodes))
+    }
+
+    /// The nodes of the starts, in their order, or the first refusal: all features are looked at before any port.
     pub(crate) fn start_nodes(
         &self,
         alloc: Global,
@@ -36,13 +64,9 @@ impl Net {
         ensures good { IfOk result (λ found. OnOk found (starts_due self.now starts.now ≡ None)) }
         ensures bad { IfOk result (λ found. IfErr found (λ refusal. starts_due self.now starts.now ≡ Some refusal)) }
     {
-        let mut nodes = Vec::new(alloc);
-        for start in starts {
-            match self.start_node(*start) {
-                Ok(node) => nodes.push(node)?,
-                Err(refusal) => return Ok(Err(refusal)),
-            }
+        match self.check_features(starts) {
+            Ok(()) => self.nodes_of(alloc, starts),
+            Err(refusal) => Ok(Err(refusal)),
         }
-        Ok(Ok(nodes))
     }
 }

@@ -20,10 +20,10 @@ use un_star::build;
 
 /// A network once an extent was validated, with how many areas were cleared and how many errors stand under them.
 #[derive(Drop)]
-pub struct Validated {
-    pub net: Net,
-    pub cleared: u64,
-    pub errors: u64,
+pub(crate) struct Validated {
+    pub(crate) net: Net,
+    pub(crate) cleared: u64,
+    pub(crate) errors: u64,
 }
 
 /// What is kept once some points have the stars of all features, and how many errors these stars have.
@@ -54,11 +54,11 @@ fn star_at(alloc: Global, live: &Live, p: Point) -> Result<Arc<Star>, AllocError
 impl Net {
     /// The features as the stars are built of them.
     pub(crate) fn live(&self) -> Live<'_>
-        ensures schema { result.schema.now ≡ self.now.catalog }
+        ensures schema { result.schema.now ≡ self.now.setup.schema }
         ensures features { features_in result.schema.now result.rows.now ≡ self.now.features }
     {
         Live {
-            schema: &self.schema,
+            schema: &self.setup.schema,
             rows: &self.rows,
             grid: &self.grid,
         }
@@ -86,7 +86,7 @@ impl Net {
     /// The network once the topology is fresh under each dirty area that meets the extent, and these areas are cleared.
     ///
     /// It is refused where the numbers are used up.
-    pub fn validate(&self, alloc: Global, extent: Rect) -> Result<Validated, Refusal>
+    pub(crate) fn validate(&self, alloc: Global, extent: Rect) -> Result<Validated, Refusal>
         ensures state { IfOk result (λ v. v.net ≡ validated self.now extent) }
         ensures cleared { IfOk result (λ v. v.cleared ≡ length (met extent self.now.areas)) }
         ensures errors { IfOk result (λ v. v.errors ≡ errors_under self.now (met extent self.now.areas)) }
@@ -99,7 +99,7 @@ impl Net {
         let rebuilt = self.rebuilt(alloc, &points)?;
         Ok(Validated {
             net: Net {
-                schema: self.schema.clone()?,
+                setup: self.setup.clone()?,
                 rows: self.rows.share()?,
                 grid: self.grid.share()?,
                 kept: rebuilt.kept,

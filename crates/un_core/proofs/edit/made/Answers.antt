@@ -14,10 +14,11 @@ returns-in_err-dirty-clause-bad c =
     let rows = c.args.live.now.rows.now in
     let told = stain_told S rows c.args.next c.args.moment c.requires.next c.args.edit.now c.requires.word c.in_ok-rows.ensures.good c.in_ok-rows.rows c.in_ok-rows.ensures.rows
     c.feature_of-id.result c.feature_of-id.ensures _ _ c.row-before.ensures c.row-after.ensures in
+    let listed = c.in_ok-dirtied.ensures.list ∙ c.stain-first.ensures ∙ told in
     let p = err_from_is_err_and c.from_residual-in_err-dirty.result c.from_residual-in_err-dirty.ensures.1 in
     rw (p.1, p.2)
     (λ memory. two_second (refusal_of S rows c.args.edit.now) _ _ c.in_ok-rows.ensures.good
-    (sym (ap (too_many c.args.dirty.now.areas) told) ∙ c.in_err-dirty.ensures.bad memory))
+    (sym (ap (too_many c.args.dirty.now.areas) (c.deref.ensures.value ∙ listed)) ∙ c.in_err-dirty.ensures.bad memory))
 
 pub returns-clause-features : goal.returns-clause-features
 returns-clause-features c =
@@ -29,7 +30,17 @@ returns-clause-areas c =
     let rows = c.args.live.now.rows.now in
     let told = stain_told S rows c.args.next c.args.moment c.requires.next c.args.edit.now c.requires.word c.in_ok-rows.ensures.good c.in_ok-rows.rows c.in_ok-rows.ensures.rows
     c.feature_of-id.result c.feature_of-id.ensures _ _ c.row-before.ensures c.row-after.ensures in
-    c.in_ok-dirty.ensures.list ∙ ap (added c.args.dirty.now) told
+    let listed = c.in_ok-dirtied.ensures.list ∙ c.stain-first.ensures ∙ told in
+    c.in_ok-dirty.ensures.list ∙ ap (added c.args.dirty.now) (c.deref.ensures.value ∙ listed)
+
+pub returns-clause-dirtied : goal.returns-clause-dirtied
+returns-clause-dirtied c =
+    let S = c.args.live.now.schema.now in
+    let rows = c.args.live.now.rows.now in
+    let told = stain_told S rows c.args.next c.args.moment c.requires.next c.args.edit.now c.requires.word c.in_ok-rows.ensures.good c.in_ok-rows.rows c.in_ok-rows.ensures.rows
+    c.feature_of-id.result c.feature_of-id.ensures _ _ c.row-before.ensures c.row-after.ensures in
+    let listed = c.in_ok-dirtied.ensures.list ∙ c.stain-first.ensures ∙ told in
+    listed
 
 pub returns-clause-grid : goal.returns-clause-grid
 returns-clause-grid c =
@@ -43,4 +54,5 @@ returns-clause-good c =
     let rows = c.args.live.now.rows.now in
     let told = stain_told S rows c.args.next c.args.moment c.requires.next c.args.edit.now c.requires.word c.in_ok-rows.ensures.good c.in_ok-rows.rows c.in_ok-rows.ensures.rows
     c.feature_of-id.result c.feature_of-id.ensures _ _ c.row-before.ensures c.row-after.ensures in
-    two_none (refusal_of S rows c.args.edit.now) _ c.in_ok-rows.ensures.good (sym (ap (too_many c.args.dirty.now.areas) told) ∙ c.in_ok-dirty.ensures.good)
+    let listed = c.in_ok-dirtied.ensures.list ∙ c.stain-first.ensures ∙ told in
+    two_none (refusal_of S rows c.args.edit.now) _ c.in_ok-rows.ensures.good (sym (ap (too_many c.args.dirty.now.areas) (c.deref.ensures.value ∙ listed)) ∙ c.in_ok-dirty.ensures.good)

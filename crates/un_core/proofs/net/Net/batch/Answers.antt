@@ -2,7 +2,8 @@ use Rattle.std.proofs.Common.{◌≡◌, ◌+◌, sym, ap, subst, ◌∙◌}
 use Rattle.std.specs.Arc.{arc_value}
 use Rattle.un_grid.specs.Grids.{IsGridOf}
 use Rattle.un_core.specs.State.{State}
-use Rattle.un_core.specs.Step.{batches, made_by_all, ids_of_all, batched}
+use Rattle.un_ask.specs.declared.request.Command.TheVariants as command
+use Rattle.un_core.specs.Step.{made_by_all, ids_of_all, batched}
 use Rattle.un_core.specs.Cover.{IsState}
 use Rattle.un_core.specs.Feature.{HaveAttributes}
 use Rattle.un_core.specs.Held.{held, features_in}
@@ -14,7 +15,7 @@ pub invariant_of-net : goal.invariant_of-net
 invariant_of-net c =
     let s = c.args.self.now in
     let es = c.args.edits.now in
-    let S = arc_value c.net.inside.schema in
+    let S = arc_value c.net.inside.setup in
     let rows = c.net.inside.rows in
     let kept = c.net.inside.kept in
     let dirty = c.net.inside.dirty in
@@ -29,16 +30,16 @@ invariant_of-net c =
     let state : held S c.in_ok-net-inside.field-0 kept dirty moment next ≡ batched s es =
     ap (λ r. held S r kept dirty moment next) settled
     ∙ batched_is s es c.requires.word S rows kept dirty c.net.inside.version next moment ids made told moment_is in (
-      subst IsState (sym state) (cover_is_kept s (batches es) (subst IsState c.self.view_is c.self.invariant.0) c.in_ok-net.ensures.may),
-      subst (λ r. IsGridOf grid (features_in S r)) (sym settled) (settled_grid grid S rows ids moment c.net.invariant.1),
-      subst (HaveAttributes S) (sym settled) (settled_has S rows ids moment c.net.invariant.2),
+      subst IsState (sym state) (cover_is_kept s (command.Batch es) (subst IsState c.self.view_is c.self.invariant.0) c.in_ok-net.ensures.may),
+      subst (λ r. IsGridOf grid (features_in S.schema r)) (sym settled) (settled_grid grid S.schema rows ids moment c.net.invariant.1),
+      subst (HaveAttributes S.schema) (sym settled) (settled_has S.schema rows ids moment c.net.invariant.2),
     )
 
 pub returns-clause-state : goal.returns-clause-state
 returns-clause-state c =
     let s = c.args.self.now in
     let es = c.args.edits.now in
-    let S = arc_value c.net.inside.schema in
+    let S = arc_value c.net.inside.setup in
     let kept = c.net.inside.kept in
     let dirty = c.net.inside.dirty in
     let next = c.net.inside.next_feature in

@@ -12,6 +12,8 @@ use Rattle.un_store.proofs.Fitting.{none_due}
 use Rattle.un_store.proofs.EditsFit.{may_be_made}
 use Rattle.un_dirty.specs.Areas.{added}
 use Rattle.un_grid.specs.Grids.{IsGridOf}
+use Rattle.un_core.specs.declared.setup.Setup.{Setup}
+use Rattle.un_core.specs.State.{State}
 use Rattle.un_core.specs.Cover.{IsState}
 use Rattle.un_core.specs.Step.{setting, next_with, made_at}
 use Rattle.un_core.specs.Feature.{HaveAttributes}
@@ -23,7 +25,7 @@ use Rattle.un_core.proofs.net.Net.make.Goals as goal
 
 pub returns-in_err-parts-clause-bad : goal.returns-in_err-parts-clause-bad
 returns-in_err-parts-clause-bad c =
-    let S = arc_value c.self.inside.schema in
+    let S = arc_value c.self.inside.setup in
     let rows = c.self.inside.rows in
     let dirty = c.self.inside.dirty in
     let e = c.args.edit.now in
@@ -31,13 +33,13 @@ returns-in_err-parts-clause-bad c =
     let p = err_from_is_err_and c.from_residual.result c.from_residual.ensures.1 in
     rw (p.1, p.2)
     (λ memory.
-    let due = subst (λ C. first_due (refusal_of C rows e ∷ too_many dirty.areas (stain (features_in C rows) e) ∷ []) ≡ Some r) c.deref-2.ensures (c.in_err-parts.ensures.bad memory) in
+    let due = subst (λ (C : Setup). first_due (refusal_of C.schema rows e ∷ too_many dirty.areas (stain (features_in C.schema rows) e) ∷ []) ≡ Some r) c.deref-2.ensures (c.in_err-parts.ensures.bad memory) in
     subst (λ s. first_due (beside_numbers s e) ≡ Some r) c.self.view_is
     (due_beside S rows c.self.inside.kept dirty c.self.inside.version c.self.inside.next_feature e (Some r) due))
 
-pub invariant_of-result : goal.invariant_of-result
-invariant_of-result c =
-    let S = arc_value c.self.inside.schema in
+pub invariant_of-net : goal.invariant_of-net
+invariant_of-net c =
+    let S = arc_value c.self.inside.setup in
     let n = c.self.inside.next_feature in
     let v = c.self.inside.version in
     let moment = c.args.moment in
@@ -45,26 +47,27 @@ invariant_of-result c =
     let rows = c.self.inside.rows in
     let dirty = c.self.inside.dirty in
     let e = c.args.edit.now in
-    let F = features_in S rows in
+    let F = features_in S.schema rows in
     let is = c.self.invariant.0 in
     let next = c.next_after.result in
-    let features = subst (λ C. features_in C parts.rows ≡ changed (setting_of C) (next_at n moment) (features_in C rows) e) c.deref-2.ensures c.in_ok-parts.ensures.features in
-    let areas = subst (λ C. parts.dirty ≡ added dirty (stain (features_in C rows) e)) c.deref-2.ensures c.in_ok-parts.ensures.areas in
-    let grid = subst (λ C. IsGridOf parts.grid (features_in C parts.rows)) c.deref-2.ensures c.in_ok-parts.ensures.grid in
-    let due = subst (λ C. first_due (refusal_of C rows e ∷ too_many dirty.areas (stain (features_in C rows) e) ∷ []) ≡ None) c.deref-2.ensures c.in_ok-parts.ensures.good in
-    let may = may_be_made (setting_of S) (next_at n moment) F e (subst IsCatalog c.deref.ensures c.rules-rules.ensures.catalog) is.sound.kinds refl refl
-    c.requires.word (none_due (refusal_of S rows e) _ due).0 in
-    let named = changed_has (setting_of S) (next_at n moment) F e c.self.invariant.2 in
+    let features = subst (λ (C : Setup). features_in C.schema parts.rows ≡ changed (setting_of C.schema) (next_at n moment) (features_in C.schema rows) e) c.deref-2.ensures c.in_ok-parts.ensures.features in
+    let areas = subst (λ (C : Setup). parts.dirty ≡ added dirty (stain (features_in C.schema rows) e)) c.deref-2.ensures c.in_ok-parts.ensures.areas in
+    let grid = subst (λ (C : Setup). IsGridOf parts.grid (features_in C.schema parts.rows)) c.deref-2.ensures c.in_ok-parts.ensures.grid in
+    let due = subst (λ (C : Setup). first_due (refusal_of C.schema rows e ∷ too_many dirty.areas (stain (features_in C.schema rows) e) ∷ []) ≡ None) c.deref-2.ensures c.in_ok-parts.ensures.good in
+    let s = held S rows c.self.inside.kept dirty v n in
+    let may = may_be_made (setting s) (next_with s moment) F e (subst (λ (C : Setup). IsCatalog C.schema) c.deref.ensures c.rules-rules.ensures.catalog) is.sound.kinds refl refl
+    c.requires.word (none_due (refusal_of S.schema rows e) _ due).0 in
+    let named = changed_has (setting_of S.schema) (next_at n moment) F e c.self.invariant.2 in
     let state = is_state S rows c.self.inside.kept dirty v n moment e c.requires.word parts.rows parts.dirty next features areas c.next_after.ensures is may in (
       subst (λ C. IsState (held C parts.rows c.in_ok-share.field-0 parts.dirty v next)) (sym c.in_ok-clone.ensures.cases)
           (subst (λ kept. IsState (held S parts.rows kept parts.dirty v next)) (sym c.in_ok-share.ensures) state),
-      subst (λ C. IsGridOf parts.grid (features_in C parts.rows)) (sym c.in_ok-clone.ensures.cases) grid,
-      subst (λ C. HaveAttributes C parts.rows) (sym c.in_ok-clone.ensures.cases) (subst (HaveAttributes S) (sym (ap (λ (G : Features). G.rows) features)) named),
+      subst (λ (C : Setup). IsGridOf parts.grid (features_in C.schema parts.rows)) (sym c.in_ok-clone.ensures.cases) grid,
+      subst (λ (C : Setup). HaveAttributes C.schema parts.rows) (sym c.in_ok-clone.ensures.cases) (subst (HaveAttributes S.schema) (sym (ap (λ (G : Features). G.rows) features)) named),
     )
 
 pub returns-clause-state : goal.returns-clause-state
 returns-clause-state c =
-    let S = arc_value c.self.inside.schema in
+    let S = arc_value c.self.inside.setup in
     let n = c.self.inside.next_feature in
     let v = c.self.inside.version in
     let moment = c.args.moment in
@@ -72,29 +75,37 @@ returns-clause-state c =
     let rows = c.self.inside.rows in
     let dirty = c.self.inside.dirty in
     let e = c.args.edit.now in
-    let features = subst (λ C. features_in C parts.rows ≡ changed (setting_of C) (next_at n moment) (features_in C rows) e) c.deref-2.ensures c.in_ok-parts.ensures.features in
-    let areas = subst (λ C. parts.dirty ≡ added dirty (stain (features_in C rows) e)) c.deref-2.ensures c.in_ok-parts.ensures.areas in
+    let features = subst (λ (C : Setup). features_in C.schema parts.rows ≡ changed (setting_of C.schema) (next_at n moment) (features_in C.schema rows) e) c.deref-2.ensures c.in_ok-parts.ensures.features in
+    let areas = subst (λ (C : Setup). parts.dirty ≡ added dirty (stain (features_in C.schema rows) e)) c.deref-2.ensures c.in_ok-parts.ensures.areas in
     (λ i. held (c.in_ok-clone.ensures.cases i) parts.rows (c.in_ok-share.ensures i) parts.dirty v c.next_after.result)
     ∙ state_is S rows c.self.inside.kept dirty v n moment e c.requires.word parts.rows parts.dirty c.next_after.result features areas c.next_after.ensures
     ∙ ap (λ s. made_at moment s e) c.self.view_is
 
 pub returns-clause-may : goal.returns-clause-may
 returns-clause-may c =
-    let S = arc_value c.self.inside.schema in
+    let S = arc_value c.self.inside.setup in
     let n = c.self.inside.next_feature in
     let rows = c.self.inside.rows in
     let dirty = c.self.inside.dirty in
     let e = c.args.edit.now in
-    let due = subst (λ C. first_due (refusal_of C rows e ∷ too_many dirty.areas (stain (features_in C rows) e) ∷ []) ≡ None) c.deref-2.ensures c.in_ok-parts.ensures.good in
+    let s = held S rows c.self.inside.kept dirty c.self.inside.version n in
+    let due = subst (λ (C : Setup). first_due (refusal_of C.schema rows e ∷ too_many dirty.areas (stain (features_in C.schema rows) e) ∷ []) ≡ None) c.deref-2.ensures c.in_ok-parts.ensures.good in
     subst (λ s. MayBeMade (setting s) (next_with s c.args.moment) s.features e) c.self.view_is
-    (may_be_made (setting_of S) (next_at n c.args.moment) (features_in S rows) e (subst IsCatalog c.deref.ensures c.rules-rules.ensures.catalog) (c.self.invariant.0).sound.kinds refl refl
-    c.requires.word (none_due (refusal_of S rows e) _ due).0)
+    (may_be_made (setting s) (next_with s c.args.moment) (features_in S.schema rows) e (subst (λ (C : Setup). IsCatalog C.schema) c.deref.ensures c.rules-rules.ensures.catalog) (c.self.invariant.0).sound.kinds refl refl
+    c.requires.word (none_due (refusal_of S.schema rows e) _ due).0)
 
 pub returns-clause-good : goal.returns-clause-good
 returns-clause-good c =
-    let S = arc_value c.self.inside.schema in
+    let S = arc_value c.self.inside.setup in
     let rows = c.self.inside.rows in
     let dirty = c.self.inside.dirty in
     let e = c.args.edit.now in
-    let due = subst (λ C. first_due (refusal_of C rows e ∷ too_many dirty.areas (stain (features_in C rows) e) ∷ []) ≡ None) c.deref-2.ensures c.in_ok-parts.ensures.good in
+    let due = subst (λ (C : Setup). first_due (refusal_of C.schema rows e ∷ too_many dirty.areas (stain (features_in C.schema rows) e) ∷ []) ≡ None) c.deref-2.ensures c.in_ok-parts.ensures.good in
     subst (λ s. first_due (beside_numbers s e) ≡ None) c.self.view_is (due_beside S rows c.self.inside.kept dirty c.self.inside.version c.self.inside.next_feature e None due)
+
+pub returns-clause-dirtied : goal.returns-clause-dirtied
+returns-clause-dirtied c =
+    let rows = c.self.inside.rows in
+    let e = c.args.edit.now in
+    subst (λ (C : Setup). c.in_ok-parts.parts.dirtied.items ≡ stain (features_in C.schema rows) e) c.deref-2.ensures c.in_ok-parts.ensures.dirtied
+    ∙ ap (λ (s : State). stain s.features e) c.self.view_is

@@ -4,7 +4,7 @@ use Rattle.un_core.proofs.net.Net.make_all.Given as goal
 
 abbrev pub invariant-loop-place : goal.invariant-loop-place
 invariant-loop-place l = record {
-  under_way : IsUnderWay l.fn.self l.edits l.place l.net l.ids.items;
+  under_way : IsUnderWay l.fn.self l.edits l.place l.net l.ids.items l.dirtied.items;
   features : l.net.next_feature ≤ l.fn.self.next_feature + l.place;
   areas : l.net.next_area ≤ l.fn.self.next_area + 2 * l.place;
   told : vec_len l.ids ≡ l.place;

@@ -12,6 +12,6 @@ pub invariant_of-result : goal.invariant_of-result
 invariant_of-result c =
     let S = arc_value c.in_ok-new.field-0 in (
       subst IsState (λ i. held S (sym c.new-2.ensures i) (sym c.new-4.ensures i) (sym c.new-5.ensures i) 0 1) (opening_state S),
-      λ p. ap (λ g. ports_in g p) c.new-3.ensures ∙ ap (λ rows. ports (features_in S rows) p) (sym c.new-2.ensures),
-      subst (HaveAttributes S) (sym c.new-2.ensures) (λ i d l. absurd (omega arith)),
+      λ p. ap (λ g. ports_in g p) c.new-3.ensures ∙ ap (λ rows. ports (features_in S.schema rows) p) (sym c.new-2.ensures),
+      subst (HaveAttributes S.schema) (sym c.new-2.ensures) (λ i d l. absurd (omega arith)),
     )

@@ -1,11 +1,10 @@
-use Rattle.std.proofs.Common.{map, inl, sym, subst}
+use Rattle.std.proofs.Common.{inl, sym, subst}
 use Rattle.std.proofs.lemmas.Result.{IfOk-weaker}
 use Rattle.un_defs.specs.Ground.{Ground}
 use Rattle.un_defs.specs.Reach.{IsReach, leads}
 use Rattle.un_index.specs.Kept.{stars_of}
 use Rattle.un_trace.specs.Told.{IsAnswer, mode_of}
-use Rattle.un_core.specs.State.{kept_ground}
-use Rattle.un_core.specs.Answers.{reached_kept}
+use Rattle.un_core.specs.Answers.{kept_survey, reached_from}
 use Rattle.un_core.proofs.Asked.{answer_kept, kept_points}
 use Rattle.un_core.proofs.Grounds.{reached_reaches}
 use Rattle.un_core.proofs.net.Net.trace_kept.Goals as goal
@@ -24,8 +23,8 @@ pub returns-clause-ticks : goal.returns-clause-ticks
 returns-clause-ticks g c =
     let s = c.args.self.now in
     let ask = c.args.ask.now in
-    c.trace.ensures.ticks (reached_kept s ask)
-    (subst (λ (G : Ground). IsReach (leads G ask.barriers (mode_of ask.kind)) ask.starts (reached_kept s ask))
+    c.trace.ensures.ticks (reached_from (kept_survey s) ask)
+    (subst (λ (G : Ground). IsReach (leads G ask.barriers (mode_of ask.kind)) ask.starts (reached_from (kept_survey s) ask))
     (λ i. record { stars = stars_of (sym c.kept-kept.ensures.stars i); areas = sym c.kept-kept.ensures.areas i })
-    (reached_reaches (kept_ground s) (map (λ pair. pair.0) s.kept) (kept_points s.kept) ask.barriers (mode_of ask.kind) ask.starts))
+    (reached_reaches (kept_survey s) (kept_points s.kept) ask.barriers (mode_of ask.kind) ask.starts))
     (inl c.requires.plain)

@@ -1,9 +1,10 @@
-use Rattle.std.proofs.Common.{◌≡◌, ◌+◌, sym, ap, ◌∙◌, subst, length}
+use Rattle.std.proofs.Common.{arith, ◌≡◌, ◌+◌, sym, ap, ◌∙◌, subst, length}
 use Rattle.std.specs.Arc.{arc_value}
 use Rattle.std.specs.List.{sum_by}
 use Rattle.un_defs.specs.Ports.{ports}
 use Rattle.un_dirty.specs.Areas.{cleared}
 use Rattle.un_grid.specs.Grids.{ports_in}
+use Rattle.un_core.specs.declared.setup.Setup.{Setup}
 use Rattle.un_core.specs.State.{fresh_star}
 use Rattle.un_core.specs.Cover.{IsState}
 use Rattle.un_core.specs.Validation.{met, validated, errors_under, ArePoints, AreRebuilt}
@@ -16,7 +17,7 @@ use Rattle.un_core.proofs.net.Net.validate.Goals as goal
 
 pub invariant_of-result : goal.invariant_of-result
 invariant_of-result c =
-    let S = arc_value c.self.inside.schema in
+    let S = arc_value c.self.inside.setup in
     let rows = c.self.inside.rows in
     let dirty = c.self.inside.dirty in
     let v = c.self.inside.version in
@@ -33,13 +34,13 @@ invariant_of-result c =
     subst (λ k. IsState (held S rows k (cleared dirty c.args.extent) (v + 1) n)) (sym is) (validated_state s c.self.invariant.0 c.args.extent) in (
       subst IsState (λ i. held (sym c.in_ok-clone.ensures.cases i) (sym c.in_ok-share.ensures i) kept (sym c.in_ok-clear_meeting.ensures i) (v + 1) n) state,
       λ p. ap (λ g. ports_in g p) c.in_ok-share-2.ensures.same ∙ c.self.invariant.1 p
-          ∙ (λ i. ports (features_in (sym c.in_ok-clone.ensures.cases i) (sym c.in_ok-share.ensures i)) p),
-      subst (λ C. HaveAttributes C c.in_ok-share.field-0) (sym c.in_ok-clone.ensures.cases) (subst (HaveAttributes S) (sym c.in_ok-share.ensures) c.self.invariant.2),
+          ∙ (λ i. ports (features_in (sym c.in_ok-clone.ensures.cases i).schema (sym c.in_ok-share.ensures i)) p),
+      subst (λ (C : Setup). HaveAttributes C.schema c.in_ok-share.field-0) (sym c.in_ok-clone.ensures.cases) (subst (HaveAttributes S.schema) (sym c.in_ok-share.ensures) c.self.invariant.2),
     )
 
 pub returns-clause-state : goal.returns-clause-state
 returns-clause-state c =
-    let S = arc_value c.self.inside.schema in
+    let S = arc_value c.self.inside.setup in
     let rows = c.self.inside.rows in
     let dirty = c.self.inside.dirty in
     let v = c.self.inside.version in
@@ -65,3 +66,9 @@ returns-clause-errors c =
     ∙ ap (sum_by (λ p. length (fresh_star s p).errors)) c.deref-2.ensures.value
     ∙ errors_counted s (subst IsState c.self.view_is c.self.invariant.0) c.deref.result.now points c.in_ok-points.ensures.points c.in_ok-points.ensures.sorted
     ∙ ap (errors_under s) areas
+
+pub returns-clause-cleared : goal.returns-clause-cleared
+returns-clause-cleared c =
+    let areas : c.deref.result.now ≡ met c.args.extent c.args.self.now.areas =
+    c.deref.ensures.value ∙ c.in_ok-areas.ensures ∙ ap (λ t. met c.args.extent t.areas) c.self.view_is in
+    omega (arith, c.len.ensures, c.deref.ensures.len, ap length areas)
