@@ -6,6 +6,7 @@ use std::rt::Env;
 use std::{env, io};
 use un_io::{ReadSource, Word, WriteSink};
 use un_script::run_script;
+use un_steps::Steps;
 
 /// The status where there is no memory for the words.
 const NO_MEMORY: u8 = 7;
@@ -35,7 +36,14 @@ fn main(rt: HostRuntime) -> ExitCode {
         Ok(words) => {
             let mut source = ReadSource::new(rt.stdin());
             let mut sink = WriteSink::new(rt.stdout());
-            run_script(rt.alloc(), words.as_slice(), &mut source, &mut sink)
+            let mut steps: Steps<()> = Steps::new();
+            run_script(
+                rt.alloc(),
+                words.as_slice(),
+                &mut source,
+                &mut sink,
+                &mut steps,
+            )
         }
         Err(fault) => no_words(&fault),
     };

@@ -1,7 +1,5 @@
 pub mod Texts
 pub mod Words
-pub mod Commands
 pub mod Refusals
-pub mod Alike
 pub mod History
 mod Samples

@@ -1,5 +1,5 @@
 -- Where the first line of a script is refused, its refusal is all that is due.
-use Rattle.std.proofs.Common.{◌≡◌, ◌⊎◌, inl, inr, ℕ, Bool, true, false, List, [], ◌∷◌, ◌++◌, Option, Some, None, refl, ap, sym, ◌∙◌, append-nil}
+use Rattle.std.proofs.Common.{◌≡◌, ◌≢◌, ◌⊎◌, inl, inr, ℕ, Bool, true, false, List, [], ◌∷◌, ◌++◌, Option, Some, None, refl, ap, sym, ◌∙◌, append-nil}
 use Rattle.std.specs.List.{slice_split}
 use Rattle.un_lines.specs.Cut.{is_line_end, lines_of}
 use Rattle.un_lines.specs.Rules.{Opening, Refused as Closed, kind_of}
@@ -10,7 +10,7 @@ use Rattle.un_schema.specs.declared.place.Place.TheVariants as place
 use Rattle.un_schema_json.specs.Lines.{schema_of}
 use Rattle.un_replies.specs.Replies.{print}
 use Rattle.un_core.specs.State.{State}
-use Rattle.un_script.specs.Script.{script, bad_schema, bad_place, refusal_line, refused_place, IsRefusedAs, IsUnrefusedBy}
+use Rattle.un_script.specs.Script.{script, bad_schema, bad_place, refusal_line, refused_place, IsRefusedAs, IsServedBy, IsUnrefusedBy}
 
 -- behind a refused first line nothing is due
 silent : (ended : Bool) (lines texts : List (List ℕ)) → due_from script ended Closed lines texts ≡ []
@@ -48,6 +48,11 @@ refused_alone read left out refused = record {
   refused = refused;
   alone = refused.is_due ∙ turned_away refused.ended (lines_of refused.ended read) (slice_split is_line_end out) refused.first;
 }
+
+-- where a state was opened, the first line opened it
+pub served_opened : (read : List ℕ) (state : Option State) (out : List ℕ) → state ≢ None → IsServed script read true state out → IsServedBy script read true Opens out
+served_opened read None out opened served = absurd (opened refl)
+served_opened read (Some s) out opened served = record { is_due = served.is_due; first_is = served.first }
 
 -- where a state was opened or no first line has come, no first line is refused
 pub served_unrefused : (read : List ℕ) (state : Option State) (out : List ℕ) → IsServed script read false state out → IsUnrefusedBy script read out

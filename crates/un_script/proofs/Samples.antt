@@ -2,28 +2,27 @@
 use Rattle.std.proofs.Common.{◌≡◌, ℕ, List, [], ◌∷◌, Ok, None, refl}
 use Rattle.un_geom.specs.Rectangle.{Rectangle}
 use Rattle.un_schema.specs.declared.place.Place.TheVariants as place
-use Rattle.un_schema.specs.Catalog.{Catalog}
 use Rattle.un_defs.specs.declared.refusal.Refusal.TheVariants as refusal
 use Rattle.un_ask.specs.declared.request.Command.TheVariants as command
 use Rattle.un_ask.specs.declared.request.Request.TheVariants.{Command}
 use Rattle.un_ask.specs.declared.reply.Reply.TheVariants as reply
-use Rattle.un_core.specs.Step.{validates}
-use Rattle.un_script.specs.History.{History, history_behind, reply_after}
+use Rattle.un_core.specs.declared.setup.Setup.{Setup}
+use Rattle.un_script.specs.History.{History, history_behind_line, reply_after_line}
 
-abbrev opening : Catalog → History
-opening S = record { schema = S; events = [] }
+abbrev opening : Setup → History
+opening S = record { setup = S; commands = [] }
 
 -- two validations are accepted, and the last one stands first
-two_validations : (S : Catalog) (first second : Rectangle)
-    → history_behind (history_behind (opening S) (Ok (Command (command.Validate first)))) (Ok (Command (command.Validate second)))
-    ≡ record { schema = S; events = validates second ∷ validates first ∷ [] }
+two_validations : (S : Setup) (first second : Rectangle)
+    → history_behind_line (history_behind_line (opening S) (Ok (Command (command.Validate first)))) (Ok (Command (command.Validate second)))
+    ≡ record { setup = S; commands = command.Validate second ∷ command.Validate first ∷ [] }
 two_validations S first second = refl
 
 -- a command that is refused leaves the history as it was
-update_is_none : (S : Catalog) (tier subnet : List ℕ)
-    → history_behind (opening S) (Ok (Command (command.Update tier subnet))) ≡ opening S
+update_is_none : (S : Setup) (tier subnet : List ℕ)
+    → history_behind_line (opening S) (Ok (Command (command.Update tier subnet))) ≡ opening S
 update_is_none S tier subnet = refl
 
-update_refused : (S : Catalog) (tier subnet : List ℕ)
-    → reply_after (opening S) (Ok (Command (command.Update tier subnet))) ≡ reply.Refused (refusal.BadRequest place.Do) None 0
+update_refused : (S : Setup) (tier subnet : List ℕ)
+    → reply_after_line (opening S) (Ok (Command (command.Update tier subnet))) ≡ reply.Refused (refusal.BadRequest place.Do) None 0
 update_refused S tier subnet = refl

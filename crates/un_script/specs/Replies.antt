@@ -1,19 +1,26 @@
 -- Each reply of a script is one line, and none tells of want of memory.
-use Rattle.std.proofs.Common.{◌≡◌, ◌≢◌, ℕ, List, [], ◌∷◌, ◌<◌, Option, None, Some, ap, lit<, refl, arith}
+use Rattle.std.proofs.Common.{◌≡◌, ◌≢◌, ℕ, List, [], ◌∷◌, ◌<◌, Option, None, Some, Result, Ok, Err, ap, lit<, refl, arith}
 use Rattle.serde_json.proofs.OnLiterals.{serde_json_on_literals}
 use Rattle.un_defs.specs.declared.refusal.Refusal.{Refusal}
 use Rattle.un_defs.specs.declared.refusal.Refusal.TheVariants as refusal
 use Rattle.un_ask.specs.declared.reply.Reply.{Reply}
 use Rattle.un_ask.specs.declared.reply.Reply.TheVariants as reply
 use Rattle.un_lines.specs.Rules.{IsPlain, memory_line}
-use Rattle.un_json.specs.Requests.{ask}
+use Rattle.un_ask.specs.declared.request.Request.{Request}
+use Rattle.un_ask.specs.declared.request.Request.TheVariants as request
+use Rattle.un_json.specs.declared.fault.ReadFault.{ReadFault}
+use Rattle.un_json.specs.declared.fault.ReadFault.TheVariants.{NotJson, BadRequest, Memory}
+use Rattle.un_json.specs.Requests.{ask, asked_by, or_fault, request_of, json_of}
+use Rattle.serde_json.specs.Data.{Data}
 use Rattle.un_schema_json.specs.Lines.{schema_of}
+use Rattle.un_schema.specs.declared.place.Place.{Place}
 use Rattle.un_schema.specs.declared.place.Place.TheVariants as place
 use Rattle.un_replies.specs.Replies.{print, shown}
-use Rattle.un_script.specs.Told.{IsTold}
-use Rattle.un_script.specs.Script.{script, bad_schema, bad_place, line_too_long, reply_to}
+use Rattle.un_core.specs.State.{State}
+use Rattle.un_core.specs.Answers.{kept_basis}
+use Rattle.un_core.specs.NoMemory.{IsNoMemory, command_is_no_memory, answer_is_no_memory}
+use Rattle.un_script.specs.Script.{script, bad_schema, bad_place, line_too_long, reply_to_line}
 use Rattle.un_script.specs.OneLine.{text_line}
-use Rattle.un_script.specs.Telling.{line_told}
 
 -- the byte behind the first two
 abbrev third : List ℕ → ℕ
@@ -112,7 +119,7 @@ refusal_other (refusal.RuleExists place) None version told = other_third _ _ ref
 refusal_other (refusal.RuleExists place) (Some edit) version told = other_third _ _ refl (lit< tt)
 refusal_other refusal.Memory edit version told = absurd (told refl)
 
-reply_other : (r : Reply) → IsTold r → print r ≢ memory_line
+reply_other : (r : Reply) → IsNoMemory r → print r ≢ memory_line
 unfolding serde_json_on_literals
 reply_other (reply.Edited areas id word version) told = other_third _ _ refl (lit< tt)
 reply_other (reply.Batch areas ids version) told = other_third _ _ refl (lit< tt)
@@ -130,11 +137,34 @@ reply_other (reply.Loops segments version) told = above_third _ _ refl (lit< tt)
 reply_other (reply.Isolation borders features version) told = other_third _ _ refl (lit< tt)
 reply_other (reply.Refused r edit version) told = refusal_other r edit version told
 
+-- ---- lines
+
+never_memory : (text : List ℕ) → ask text ≢ Err Memory
+never_memory text e = go (json_of text) e
+  where
+    at : (r : Result Request Place) → or_fault r ≡ Err Memory → ⊥
+    at (Err p) e = cc
+    at (Ok r) e = cc
+
+    go : (o : Option Data) → asked_by o ≡ Err Memory → ⊥
+    go None e = cc
+    go (Some d) e = at (request_of d) e
+
+line_is_no_memory : (s : State) (text : List ℕ) → IsNoMemory (reply_to_line s (ask text))
+line_is_no_memory s text = go (ask text) (never_memory text)
+  where
+    go : (r : Result Request ReadFault) → r ≢ Err Memory → IsNoMemory (reply_to_line s r)
+    go (Err NotJson) other = λ e. cc
+    go (Err (BadRequest place)) other = λ e. cc
+    go (Err Memory) other = absurd (other refl)
+    go (Ok (request.Command c)) other = command_is_no_memory s c
+    go (Ok (request.Query q)) other = answer_is_no_memory s (kept_basis s) q
+
 pub script_is_plain : IsPlain script
 script_is_plain = record {
   refusals = λ line. text_line (shown (bad_schema (bad_place (schema_of line))));
   refusal = text_line (shown (bad_schema place.Line));
-  replies = λ s line. text_line (shown (reply_to s (ask line)));
+  replies = λ s line. text_line (shown (reply_to_line s (ask line)));
   too_long = text_line (shown line_too_long);
-  other = λ s line. reply_other (reply_to s (ask line)) (line_told s line);
+  other = λ s line. reply_other (reply_to_line s (ask line)) (line_is_no_memory s line);
 }

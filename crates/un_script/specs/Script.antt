@@ -12,23 +12,26 @@ use Rattle.un_tiers.specs.declared.tier.Tier.{Tier}
 use Rattle.un_schema_json.specs.Lines.{schema_of}
 use Rattle.un_defs.specs.declared.refusal.Refusal.TheVariants as refusal
 use Rattle.un_ask.specs.declared.request.Request.{Request as Asked}
-use Rattle.un_ask.specs.declared.request.Request.TheVariants.{Command, Query}
 use Rattle.un_ask.specs.declared.reply.Reply.{Reply}
 use Rattle.un_ask.specs.declared.reply.Reply.TheVariants.{Refused}
 use Rattle.un_json.specs.declared.fault.ReadFault.{ReadFault}
 use Rattle.un_json.specs.declared.fault.ReadFault.TheVariants.{NotJson, BadRequest, Memory}
 use Rattle.un_json.specs.Requests.{ask}
 use Rattle.un_replies.specs.Replies.{print}
+use Rattle.un_core.specs.declared.setup.Setup.{Setup}
 use Rattle.un_core.specs.State.{State, opening}
-use Rattle.un_core.specs.Commands.{command_reply, state_after}
-use Rattle.un_core.specs.Answers.{answer}
+use Rattle.un_core.specs.Requests.{reply_to, state_behind}
 
 -- ---- the first line
 
--- the state that a schema opens. Its tiers are not looked at.
+-- what a schema's line sets up
+abbrev pub setup_of : Catalog × List Tier → Setup
+setup_of schema = record { schema = schema.0; tiers = schema.1 }
+
+-- the state that it opens
 abbrev pub opened_by : Result (Catalog × List Tier) Place → Option State
 opened_by (Err place) = None
-opened_by (Ok schema) = Some (opening schema.0)
+opened_by (Ok schema) = Some (opening (setup_of schema))
 
 -- the first place that is bad
 abbrev pub bad_place : Result (Catalog × List Tier) Place → Place
@@ -48,16 +51,14 @@ fault_reply (BadRequest place) = Refused (refusal.BadRequest place) None 0
 fault_reply Memory = Refused refusal.Memory None 0
 
 -- the reply to what a line asks
-abbrev pub reply_to : State → Result Asked ReadFault → Reply
-reply_to s (Err fault) = fault_reply fault
-reply_to s (Ok (Command command)) = command_reply s command
-reply_to s (Ok (Query query)) = answer s query
+abbrev pub reply_to_line : State → Result Asked ReadFault → Reply
+reply_to_line s (Err fault) = fault_reply fault
+reply_to_line s (Ok request) = reply_to s request
 
 -- the state behind it
-abbrev pub state_behind : State → Result Asked ReadFault → State
-state_behind s (Err fault) = s
-state_behind s (Ok (Command command)) = state_after s command
-state_behind s (Ok (Query query)) = s
+abbrev pub state_behind_line : State → Result Asked ReadFault → State
+state_behind_line s (Err fault) = s
+state_behind_line s (Ok request) = state_behind s request
 
 -- the refusal of a later line that is too long
 abbrev pub line_too_long : Reply
@@ -73,8 +74,8 @@ script = record {
   refusal = λ line. print (bad_schema (bad_place (schema_of line)));
   refusal_too_long = print (bad_schema place.Line);
   refusal_missing = print (bad_schema place.Whole);
-  reply = λ s line. print (reply_to s (ask line));
-  next = λ s line. state_behind s (ask line);
+  reply = λ s line. print (reply_to_line s (ask line));
+  next = λ s line. state_behind_line s (ask line);
   too_long = print line_too_long;
 }
 

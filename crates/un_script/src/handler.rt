@@ -10,17 +10,19 @@ ghost use Rattle.un_ask.specs.declared.request.Request.TheVariants.{Command as O
 ghost use Rattle.un_json.specs.Requests.{ask};
 ghost use Rattle.un_replies.specs.Commands.{IsOfCommand, HasRefusalName, HasFewIds};
 ghost use Rattle.un_replies.specs.Replies.{print};
+ghost use Rattle.un_ask.specs.Replies.{HasFewEdits};
 ghost use Rattle.un_core.specs.Commands.{command_reply, state_after};
 ghost use Rattle.un_core.specs.Answers.{answer};
-ghost use Rattle.un_script.specs.Batches.{HasFewEdits};
-ghost use Rattle.un_script.specs.Script.{bad_schema, fault_reply, reply_to, state_behind};
+ghost use Rattle.un_script.specs.Script.{bad_schema, fault_reply, reply_to_line, state_behind_line};
 
 use std::alloc::{AllocError, Global};
 use std::marker::PhantomData;
 use un_ask::{Command, Place, Query, Refusal, Reply, Request};
-use un_core::{Applied, Net};
+use un_core::Net;
+use un_core::laws::steps_reply;
 use un_json::{ReadFault, read_request};
 use un_lines::{Handler, Opened, REPLY_ROOM};
+use un_machine::Applied;
 use un_replies::{print_command_reply, print_reply};
 use un_schema_json::{SchemaFault, read_schema};
 use un_steps::Steps;
@@ -34,20 +36,21 @@ const SCHEMA_TOO_LONG: &[u8] = b"{\"error\":6,\"name\":\"BadSchema\",\"place\":\
 /// The refusal of an input without a first line.
 const NO_SCHEMA: &[u8] = b"{\"error\":6,\"name\":\"BadSchema\",\"place\":\"\"}";
 
-/// The network, once a schema has opened it.
+/// The network, once a schema has opened it, and the count of the stars that its traces look up.
 #[derive(Drop)]
-pub struct Script {
+pub struct Script<'a, L> {
     net: Option<Net>,
+    steps: &'a mut Steps<L>,
 }
 
-impl Script {
+impl<'a, L> Script<'a, L> {
     ghost use Rattle.std.specs.Prelude.{None};
 
     /// A script before its first line.
-    pub fn new() -> Script
+    pub fn new(steps: &'a mut Steps<L>) -> Script<'a, L>
         ensures { result.net ≡ None }
     {
-        Script { net: None }
+        Script { net: None, steps }
     }
 }
 
@@ -145,9 +148,15 @@ fn apply(
     ensures err { OnErr result ((net.new ≡ net.old) × (out.new.items ≡ out.old.items)) }
     ensures capacity { vec_capacity out.old ≤ vec_capacity out.new }
 {
+    steps_reply();
     few_edits(command);
-    match net.apply(alloc, command)? {
-        Applied::Done { net: next, reply } => {
+    match net.step(alloc, command)? {
+        Applied::Done {
+            next,
+            reply,
+            mark: _mark,
+        } => {
+            names(&reply);
             print_line(&reply, out);
             *net = next;
         }
@@ -160,13 +169,18 @@ fn apply(
 }
 
 // Answers a query.
-fn tell(alloc: Global, net: &Net, query: &Query, out: &mut Vec<u8>) -> Result<(), AllocError>
+fn tell<L>(
+    alloc: Global,
+    net: &Net,
+    query: &Query,
+    steps: &mut Steps<L>,
+    out: &mut Vec<u8>,
+) -> Result<(), AllocError>
     ensures reply { OnOk result (out.new.items ≡ out.old.items ++ (print (answer net.now query.now) ++ 10 ∷ [])) }
     ensures err { OnErr result (out.new.items ≡ out.old.items) }
     ensures capacity { vec_capacity out.old ≤ vec_capacity out.new }
 {
-    let mut steps: Steps<()> = Steps::new();
-    let reply = net.answer(alloc, query, &mut steps)?;
+    let reply = net.answer(alloc, query, steps)?;
     names(&reply);
     print_answer(alloc, &reply, out)
 }
@@ -189,21 +203,27 @@ fn refuse(fault: ReadFault, out: &mut Vec<u8>) -> Result<(), AllocError>
 }
 
 // Answers a line. Want of memory changes nothing.
-fn answer(alloc: Global, net: &mut Net, line: &[u8], out: &mut Vec<u8>) -> Result<(), AllocError>
+fn answer<L>(
+    alloc: Global,
+    net: &mut Net,
+    line: &[u8],
+    steps: &mut Steps<L>,
+    out: &mut Vec<u8>,
+) -> Result<(), AllocError>
     requires { vec_len out.old + REPLY_ROOM ≤ vec_capacity out.old }
-    ensures reply { OnOk result (out.new.items ≡ out.old.items ++ (print (reply_to net.old (ask line.now)) ++ 10 ∷ [])) }
-    ensures state { OnOk result (net.new ≡ state_behind net.old (ask line.now)) }
+    ensures reply { OnOk result (out.new.items ≡ out.old.items ++ (print (reply_to_line net.old (ask line.now)) ++ 10 ∷ [])) }
+    ensures state { OnOk result (net.new ≡ state_behind_line net.old (ask line.now)) }
     ensures err { OnErr result ((net.new ≡ net.old) × (out.new.items ≡ out.old.items)) }
     ensures capacity { vec_capacity out.old ≤ vec_capacity out.new }
 {
     match read_request(alloc, line) {
         Ok(Request::Command(command)) => apply(alloc, net, &command, out),
-        Ok(Request::Query(query)) => tell(alloc, net, &query, out),
+        Ok(Request::Query(query)) => tell(alloc, net, &query, steps, out),
         Err(fault) => refuse(fault, out),
     }
 }
 
-impl Handler for Script {
+impl<L> Handler for Script<'_, L> {
     ghost use Rattle.un_core.specs.State.{State};
     ghost use Rattle.un_script.specs.Script.{script};
     ghost use Rattle.un_script.specs.Replies.{script_is_plain};
@@ -222,7 +242,7 @@ impl Handler for Script {
 
     fn open(&mut self, alloc: Global, line: &[u8], out: &mut Vec<u8>) -> Opened {
         match read_schema(alloc, line) {
-            Ok((schema, _tiers)) => match Net::open(alloc, schema) {
+            Ok((schema, tiers)) => match Net::open(alloc, schema, tiers) {
                 Ok(net) => {
                     self.net = Some(net);
                     Opened::Open
@@ -239,7 +259,7 @@ impl Handler for Script {
 
     fn answer(&mut self, alloc: Global, line: &[u8], out: &mut Vec<u8>) -> Result<(), AllocError> {
         match &mut self.net {
-            Some(net) => answer(alloc, net, line, out),
+            Some(net) => answer(alloc, net, line, self.steps, out),
             None => Err(AllocError),
         }
     }

@@ -2,6 +2,7 @@
 #![tactic(auto)]
 
 mod handler;
+mod laws;
 mod run;
 
 pub use run::run_script;

@@ -2,7 +2,9 @@ use super::run_script;
 use std::alloc::{AllocError, Global};
 use std::test::Fail;
 use un_io::{MemSink, MemSource, Plan, Word};
+use un_steps::Steps;
 
+mod causes;
 mod edits;
 
 // More room than any output here needs.
@@ -14,7 +16,13 @@ fn run(alloc: Global, input: &[u8], source: Plan, sink: Plan) -> Result<(u8, Mem
     let words = vec![in alloc; word]?;
     let mut source = MemSource::new(input.to_vec(alloc)?, source);
     let mut sink = MemSink::new(alloc, ROOM, sink)?;
-    let status = run_script(alloc, words.as_slice(), &mut source, &mut sink);
+    let status = run_script(
+        alloc,
+        words.as_slice(),
+        &mut source,
+        &mut sink,
+        &mut Steps::<()>::new(),
+    );
     Ok((status, sink))
 }
 
@@ -208,7 +216,13 @@ fn other_words_are_no_command(rt: HostRuntime) -> Result<(), Fail> {
         let words = vec![in alloc; Word::new(String::from_str(alloc, text)?)]?;
         let mut source = MemSource::new(b"{\"schema\":1}".to_vec(alloc)?, all(alloc));
         let mut sink = MemSink::new(alloc, ROOM, all(alloc))?;
-        let status = run_script(alloc, words.as_slice(), &mut source, &mut sink);
+        let status = run_script(
+            alloc,
+            words.as_slice(),
+            &mut source,
+            &mut sink,
+            &mut Steps::<()>::new(),
+        );
         assert_eq!(rt; status, 2);
         assert_eq!(rt; sink.bytes().len(), 0);
     }

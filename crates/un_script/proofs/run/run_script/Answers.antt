@@ -1,8 +1,8 @@
 use Rattle.std.proofs.Common.{◌≡◌, ◌⊎◌, inl, inr, lit<, refl}
 use Rattle.un_lines.specs.declared.run.Ending.TheVariants.{Ended, Refused, Memory, Limit}
 use Rattle.un_lines.proofs.Public.{Ran-weaker}
-use Rattle.un_script.proofs.Refusals.{refused_alone, served_unrefused}
-use Rattle.un_script.proofs.History.{headline, ended_so, lines_so, fronts_so}
+use Rattle.un_script.proofs.Refusals.{refused_alone, served_opened, served_unrefused}
+use Rattle.un_script.proofs.History.{ended_so, lines_so, cuts_so}
 use Rattle.un_script.proofs.run.run_script.Goals as goal
 
 pub returns-in-SinkFault-clause-statuses : goal.returns-in-SinkFault-clause-statuses
@@ -22,7 +22,7 @@ returns-clause-statuses g c = (6, lit< tt, refl)
 
 pub returns-in-Refused-clause-refused : goal.returns-in-Refused-clause-refused
 returns-in-Refused-clause-refused g c = λ _.
-    Ran-weaker _ _ _ _ _ _ (c.in-Refused.ensures.refused refl) (λ read out refused. refused_alone read _ out refused)
+    Ran-weaker _ _ _ _ _ _ (c.in-Refused.ensures.refused refl) (λ read out refused. (refused.0, refused_alone read _ out refused.1))
 
 refused_is_neither : (Refused ≡ Ended) ⊎ (Refused ≡ Memory) → ⊥
 refused_is_neither (inl is) = cc
@@ -31,6 +31,10 @@ refused_is_neither (inr is) = cc
 limit_is_neither : (Limit ≡ Ended) ⊎ (Limit ≡ Memory) → ⊥
 limit_is_neither (inl is) = cc
 limit_is_neither (inr is) = cc
+
+pub returns-in-Ended-clause-ended : goal.returns-in-Ended-clause-ended
+returns-in-Ended-clause-ended g c = λ _.
+    Ran-weaker _ _ _ _ _ _ (c.in-Ended.ensures.ended refl) (λ read out served. (served.0, served_opened read _ out (c.in-Ended.ensures.opened refl) served.1))
 
 pub returns-in-Ended-clause-complete : goal.returns-in-Ended-clause-complete
 returns-in-Ended-clause-complete g c = λ bytes words told opens short source sink. inl refl
@@ -64,34 +68,18 @@ returns-clause-limit g c = λ _.
 
 pub returns-in-Ended-clause-ended_by_history : goal.returns-in-Ended-clause-ended_by_history
 returns-in-Ended-clause-ended_by_history g c = λ _.
-    Ran-weaker _ _ _ _ _ _ (c.in-Ended.ensures.ended refl) (λ read out served. (served.0, ended_so read _ out (c.in-Ended.ensures.opened refl) served.1))
+    Ran-weaker _ _ _ _ _ _ (c.in-Ended.ensures.ended refl) (λ read out served. (served.0, ended_so c.headline.ensures read _ out (c.in-Ended.ensures.opened refl) served.1))
 
 pub returns-in-SourceFault-clause-source_fault_by_history : goal.returns-in-SourceFault-clause-source_fault_by_history
 returns-in-SourceFault-clause-source_fault_by_history g c = λ _.
-    Ran-weaker _ _ _ _ _ _ (c.in-SourceFault.ensures.source_fault refl) (λ read out served. (served.0, lines_so read out (served_unrefused read _ out served.1)))
+    Ran-weaker _ _ _ _ _ _ (c.in-SourceFault.ensures.source_fault refl) (λ read out served. (served.0, lines_so c.headline.ensures read out (served_unrefused read _ out served.1)))
 
 pub returns-in-SinkFault-clause-sink_fault_by_history : goal.returns-in-SinkFault-clause-sink_fault_by_history
 returns-in-SinkFault-clause-sink_fault_by_history g c = λ _.
-    Ran-weaker _ _ _ _ _ _ (c.in-SinkFault.ensures.sink_fault refl) (λ read out fronts. fronts_so read out _ fronts)
+    Ran-weaker _ _ _ _ _ _ (c.in-SinkFault.ensures.sink_fault refl) (λ read out cut.
+    let both = cuts_so c.headline.ensures read out _ (cut.1, cut.2) in
+    (cut.0, both.0, both.1))
 
 pub returns-clause-limit_by_history : goal.returns-clause-limit_by_history
 returns-clause-limit_by_history g c = λ _.
-    Ran-weaker _ _ _ _ _ _ (c.in-Limit.ensures.limit refl) (λ read out served. (served.0, lines_so read out (served_unrefused read _ out served.1)))
-
-pub returns-in-SinkFault-clause-headline : goal.returns-in-SinkFault-clause-headline
-returns-in-SinkFault-clause-headline g c = headline
-
-pub returns-in-SourceFault-clause-headline : goal.returns-in-SourceFault-clause-headline
-returns-in-SourceFault-clause-headline g c = headline
-
-pub returns-in-Refused-clause-headline : goal.returns-in-Refused-clause-headline
-returns-in-Refused-clause-headline g c = headline
-
-pub returns-in-Memory-clause-headline : goal.returns-in-Memory-clause-headline
-returns-in-Memory-clause-headline g c = headline
-
-pub returns-in-Ended-clause-headline : goal.returns-in-Ended-clause-headline
-returns-in-Ended-clause-headline g c = headline
-
-pub returns-clause-headline : goal.returns-clause-headline
-returns-clause-headline g c = headline
+    Ran-weaker _ _ _ _ _ _ (c.in-Limit.ensures.limit refl) (λ read out served. (served.0, lines_so c.headline.ensures read out (served_unrefused read _ out served.1)))
