@@ -141,6 +141,7 @@ impl<K: Ord + Copy, V: Drop> Page<K, V> {
         self.row.tail(0)
     }
 
+    /// The entries from a bound on.
     pub(crate) fn entries_from(&self, bound: &Bound<K>) -> Tail<'_, K, V>
         ensures { result ≡ from_on K.cmp bound.now self.now }
     {

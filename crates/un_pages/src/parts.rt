@@ -31,6 +31,7 @@ pub(crate) fn first<K: Ord + Copy, V, T: Level<K, V>>(row: &Row<K, T>) -> (K, &A
     part.first()
 }
 
+/// The first entry past a key, in the part that has the key's place or in the next one.
 pub(crate) fn next<'a, K: Ord + Copy, V, T: Level<K, V>>(
     row: &'a Row<K, T>,
     after: &K,
@@ -107,6 +108,7 @@ fn seated<K: Ord + Copy, V, T: Level<K, V>>(
     Ok(row)
 }
 
+/// The row with the value at the key: one part is made anew, and the others are shared.
 pub(crate) fn with<K: Ord + Copy, V, T: Level<K, V>>(
     row: &Row<K, T>,
     alloc: Global,
@@ -203,6 +205,7 @@ pub(crate) fn take<K: Ord + Copy, V, T: Level<K, V>>(
     }
 }
 
+/// The row without the key: one part is made anew, and the others are shared.
 pub(crate) fn without<K: Ord + Copy, V, T: Level<K, V>>(
     row: &Row<K, T>,
     alloc: Global,

@@ -57,12 +57,14 @@ impl<K: Ord + Copy, V: Drop> Root<K, V> {
         parts::first(&self.shelves)
     }
 
+    /// The first entry past a key.
     pub(crate) fn next(&self, after: &K) -> Option<(K, &Arc<V>)>
         ensures { held result ≡ slice_get (past K.cmp (Some after.now) self.now) 0 }
     {
         parts::next(&self.shelves, after)
     }
 
+    /// The entries from a bound on, in order.
     pub(crate) fn range(&self, bound: &Bound<K>) -> Range<'_, K, V>
         ensures { result ≡ from_on K.cmp bound.now self.now }
     {
@@ -72,6 +74,7 @@ impl<K: Ord + Copy, V: Drop> Root<K, V> {
         Range::new(page.entries_from(bound), pages, Under::new(blocks, shelves))
     }
 
+    /// The root with the value at the key.
     pub(crate) fn with(
         &self,
         alloc: Global,

@@ -41,12 +41,14 @@ impl<'a, K: Ord + Copy, X> Model for Tail<'a, K, X> {
 }
 
 impl<'a, K: Ord + Copy, X> Tail<'a, K, X> {
+    /// A tail without entries.
     pub(crate) fn empty() -> Tail<'a, K, X>
         ensures { result ≡ [] }
     {
         Tail { items: &[] }
     }
 
+    /// Takes the first entry off the tail.
     pub(crate) fn next(&mut self) -> Option<(K, &'a Arc<X>)>
         ensures { TakesFirst pair_held self.old result self.new }
     {
@@ -57,6 +59,7 @@ impl<'a, K: Ord + Copy, X> Tail<'a, K, X> {
 }
 
 impl<K: Ord + Copy, X> Row<K, X> {
+    /// A row without entries. Takes no memory.
     pub(crate) fn empty(alloc: Global) -> Row<K, X>
         ensures { result ≡ [] }
     {
@@ -79,6 +82,7 @@ impl<K: Ord + Copy, X> Row<K, X> {
         self.items.len()
     }
 
+    /// The entry at a place.
     pub(crate) fn entry(&self, at: usize) -> (K, &Arc<X>)
         requires { at < length self.now }
         ensures { slice_get self.now at ≡ Some (result.0, arc_value result.1.now) }
@@ -150,6 +154,7 @@ impl<K: Ord + Copy, X> Row<K, X> {
         }
     }
 
+    /// The entries from a place on.
     #[tactic(auto, using(crate::proofs::Shown::shown_drop))]
     pub(crate) fn tail(&self, from: usize) -> Tail<'_, K, X>
         requires { from ≤ length self.now }
@@ -171,6 +176,7 @@ impl<K: Ord + Copy, X> Row<K, X> {
         self.items[at].1 = value;
     }
 
+    /// Inserts an entry at a place, or leaves the row as it was.
     #[tactic(auto, using(crate::proofs::Shown::shown_insert))]
     pub(crate) fn insert(&mut self, at: usize, key: K, value: Arc<X>) -> Result<(), AllocError>
     where
@@ -183,6 +189,7 @@ impl<K: Ord + Copy, X> Row<K, X> {
         Ok(())
     }
 
+    /// Removes the entry at a place.
     #[tactic(auto, using(crate::proofs::Shown::shown_remove))]
     pub(crate) fn remove(&mut self, at: usize)
     where
@@ -241,6 +248,7 @@ impl<K: Ord + Copy, X> Row<K, X> {
         Ok(Row { items })
     }
 
+    /// Appends an entry.
     pub(crate) fn push(&mut self, key: K, value: Arc<X>) -> Result<(), AllocError>
     where
         X: Drop,

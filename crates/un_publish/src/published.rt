@@ -71,12 +71,14 @@ impl<M: Machine, J: BoardName<M>> Published<M, J> {
         Published { state, prefix }
     }
 
+    /// The state, shared.
     pub(crate) fn state(&self) -> Result<Arc<M>, AllocError>
         ensures { IfOk result (λ s. arc_value s ≡ self.now.0) }
     {
         Arc::try_clone(&self.state)
     }
 
+    /// The log that leads to the state, shared.
     pub(crate) fn prefix(&self) -> Prefix<Entry<M>, J>
         ensures prefix { result ≡ self.now.1 }
         ensures reaches { Reaches M.step J.opening self.now.1 self.now.0 }
@@ -84,6 +86,7 @@ impl<M: Machine, J: BoardName<M>> Published<M, J> {
         self.prefix.again()
     }
 
+    /// A copy, which shares the state and the log.
     pub(crate) fn again(&self) -> Result<Published<M, J>, AllocError>
         ensures { IfOk result (λ s. s ≡ self.now) }
     {

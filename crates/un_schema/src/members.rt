@@ -21,6 +21,7 @@ use crate::schema_fault::{MemberFault, SchemaFault};
 use crate::table::NamedConfig;
 use std::alloc::Global;
 
+/// The names of the attributes, or the first bad place among them.
 pub(crate) fn attributes(alloc: Global, raw: &RawSchema) -> Result<Vec<Name>, SchemaFault>
     ensures ok { IfOk result (λ names. names.items ≡ items_of raw.now.attributes) }
     ensures good { OnOk result (good_attributes raw.now ≡ true) }
@@ -35,6 +36,7 @@ pub(crate) fn attributes(alloc: Global, raw: &RawSchema) -> Result<Vec<Name>, Sc
     }
 }
 
+/// The names of the categories, or the first bad place among them.
 pub(crate) fn categories(alloc: Global, raw: &RawSchema) -> Result<Vec<Name>, SchemaFault>
     requires attributes { good_attributes raw.now ≡ true }
     ensures ok { IfOk result (λ names. names.items ≡ items_of raw.now.categories) }
@@ -51,6 +53,7 @@ pub(crate) fn categories(alloc: Global, raw: &RawSchema) -> Result<Vec<Name>, Sc
     }
 }
 
+/// The terminal configurations, or the first bad place among them.
 pub(crate) fn configs(alloc: Global, raw: &RawSchema) -> Result<Vec<NamedConfig>, SchemaFault>
     requires attributes { good_attributes raw.now ≡ true }
     requires categories { good_categories raw.now ≡ true }
@@ -81,6 +84,7 @@ fn own_kinds(alloc: Global, raw: &RawSchema, categories: &[Name]) -> Result<Vec<
     kind_list(alloc, &raw.kinds, categories, items(&raw.configs))
 }
 
+/// The kinds, or the first bad place among them.
 pub(crate) fn kinds(
     alloc: Global,
     raw: &RawSchema,
@@ -117,6 +121,7 @@ fn own_rules(alloc: Global, raw: &RawSchema, bare: &Schema) -> Result<RuleList, 
     rule_list(alloc, bare, raw.format, &raw.rules)
 }
 
+/// The rules, or the first bad place among them.
 pub(crate) fn rules(alloc: Global, raw: &RawSchema, bare: &Schema) -> Result<RuleList, SchemaFault>
     requires same { bare.now ≡ kinds_from raw.now }
     requires attributes { good_attributes raw.now ≡ true }

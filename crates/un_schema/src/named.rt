@@ -54,6 +54,7 @@ pub(crate) fn are_named<T: Named>(least: usize, most: usize, items: &[T]) -> boo
     least <= items.len() && items.len() <= most && have_names(items) && are_distinct(items)
 }
 
+/// A name of its own from a text that has the form of a name.
 pub(crate) fn own_name(alloc: Global, text: &str) -> Result<Name, AllocError>
     requires { is_name text.now ≡ true }
     ensures { IfOk result (λ name. name ≡ text.now) }

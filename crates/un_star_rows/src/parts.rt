@@ -29,6 +29,7 @@ impl Model for Assocs {
 }
 
 impl Assocs {
+    /// The associations, in their order.
     pub(crate) fn as_slice(&self) -> &[Assoc]
         ensures { result.now ≡ self.now }
     {

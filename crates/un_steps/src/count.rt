@@ -19,12 +19,14 @@ unsafe impl Send for Count {}
 unsafe impl Sync for Count {}
 
 impl Count {
+    /// The count of nothing.
     pub(crate) fn zero() -> Count
         ensures { result.total ≡ 0 }
     {
         Count {}
     }
 
+    /// The count after one more.
     pub(crate) fn next(_before: &Count) -> Count
         ensures { result.total ≡ _before.now.total + 1 }
     {

@@ -46,6 +46,7 @@ impl Found {
         self.order.len()
     }
 
+    /// The node at a place.
     pub(crate) fn at(&self, place: usize) -> Node
         requires { place < length self.now }
         ensures { slice_get self.now place ≡ Some result }

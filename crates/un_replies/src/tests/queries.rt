@@ -53,6 +53,7 @@ fn errors_with_their_points(rt: HostRuntime) -> Result<(), Fail> {
     Ok(())
 }
 
+/// A feature's reply with a note that has to be escaped.
 #[tactic(auto, using(crate::proofs::Shows::one_named))]
 pub(super) fn feature(alloc: Global) -> Result<FeatureReply, Fail> {
     let attrs = vec![in alloc; (name(alloc, "length")?, -5)]?;
@@ -111,6 +112,7 @@ fn a_stored_subnetwork(rt: HostRuntime) -> Result<(), Fail> {
     Ok(())
 }
 
+/// A trace's reply whose functions take 128 bits.
 pub(super) fn traced(alloc: Global) -> Result<ResultReply, Fail> {
     let numbers = Numbers::new(vec![in alloc; 0, 2]?);
     let features = vec![in alloc;
