@@ -47,7 +47,7 @@ fn have_names<T: Named>(items: &[T]) -> bool
     items.iter().all(|item| is_name(item.name()))
 }
 
-/// Whether there are from so many to so many items, whose names have the form of names and differ.
+/// Whether the count of items is in range, and all their names are valid and distinct.
 pub(crate) fn are_named<T: Named>(least: usize, most: usize, items: &[T]) -> bool
     ensures { result ≡ are_named T.text least most items.now }
 {
