@@ -58,16 +58,16 @@ without_row F id = record F { rows = filter (λ r. not (r.id == id)) F.rows }
 abbrev pub IsGridOf : List (Point × List Port) → Features → Type 0
 IsGridOf grid F = (p : Point) → ports_in grid p ≡ ports F p
 
--- a grid that has one row more tells the ports of the features with this row
+-- a grid to which a row was added holds the ports of all features, this row included
 abbrev pub InsertLaw : Type 0
 InsertLaw = (old new : List (Point × List Port)) (F : Features) (r : Row) → IsGridOf old F → HasRow old new r → IsGridOf new (add_row F r)
 
--- a grid that lacks a row tells the ports of the features without it
+-- a grid from which a row was removed holds the ports of all other features
 abbrev pub RemoveLaw : Type 0
 RemoveLaw = (old new : List (Point × List Port)) (F : Features) (r : Row) →
     AllPairs (λ r s. r.id ≢ s.id) F.rows → row F r.id ≡ Some r → IsGridOf old F → LacksRow old new r → IsGridOf new (without_row F r.id)
 
--- a grid that has a changed row in place of the old one tells the ports of the features with the row changed
+-- a grid in which a row was replaced holds the ports of all features, with the row as it is now
 abbrev pub ReplaceLaw : Type 0
 ReplaceLaw = (old new : List (Point × List Port)) (F : Features) (r : Row) (change : Row → Row) →
     AllPairs (λ r s. r.id ≢ s.id) F.rows → row F r.id ≡ Some r → (change r).id ≡ r.id → IsGridOf old F → HasInPlace old new r (change r)

@@ -1,16 +1,16 @@
 ghost use Rattle.un_grid.specs.Grids.{InsertLaw, RemoveLaw, ReplaceLaw, StayLaw};
 
-/// A grid that has one row more tells the ports of the features with this row.
+/// A grid to which a row was added holds the ports of all features, this row included.
 pub fn insert_law()
     ensures { InsertLaw }
 {}
 
-/// A grid that lacks a row tells the ports of the features without it.
+/// A grid from which a row was removed holds the ports of all other features.
 pub fn remove_law()
     ensures { RemoveLaw }
 {}
 
-/// A grid that has a changed row in place of the old one tells the ports of the features with the row changed.
+/// A grid in which a row was replaced holds the ports of all features, with the row as it is now.
 pub fn replace_law()
     ensures { ReplaceLaw }
 {}

@@ -79,7 +79,7 @@ each_item f (item d ds) = option_and_then (λ x. option_map (λ xs. x ∷ xs) (e
 abbrev pub list_of : {A : Type 0} → (Data → Option A) → Data → Option (List A)
 list_of f d = option_and_then (each_item f) (as_array d)
 
--- a list of so many to so many
+-- a list whose length is in range
 abbrev pub list_from_to : {A : Type 0} → ℕ → ℕ → (Data → Option A) → Data → Option (List A)
 list_from_to low high f d = kept (λ xs. nat_le low (length xs) && nat_le (length xs) high) (list_of f d)
 

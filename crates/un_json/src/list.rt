@@ -38,7 +38,7 @@ pub fn read_list<F: Form>(alloc: Global, value: &Value) -> Result<Option<Vec<F::
     }
 }
 
-/// A list of so many to so many values that have the form.
+/// A list of values that have the form, whose length is in range.
 pub(crate) fn read_list_from_to<F: Form>(
     alloc: Global,
     low: usize,

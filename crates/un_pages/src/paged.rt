@@ -59,7 +59,7 @@ impl<K: Ord + Copy, V: Drop> Paged<K, V> {
         Some(&**root.get(key)?)
     }
 
-    /// The first pair whose key is over `after`, or the first pair of all.
+    /// The first pair whose key is greater than `after`, or the first pair if `after` is `None`.
     pub fn next(&self, after: Option<K>) -> Option<(K, &Arc<V>)>
         ensures first { held result ≡ slice_get (past K.cmp after self.now) 0 }
         ensures rest { IfSome result (λ p. past K.cmp after self.now ≡ pair_held p ∷ past K.cmp (Some p.0) self.now) }

@@ -10,7 +10,7 @@ abbrev pub are_distinct : {A : Type 0} → (A → A → Bool) → List A → Boo
 are_distinct alike [] = true
 are_distinct alike (x ∷ xs) = not (list_any (alike x) xs) && are_distinct alike xs
 
--- from so many to so many, with names of which none stands twice
+-- the count is in range, and the names are valid and distinct
 abbrev pub are_named : {A : Type 0} → (A → List ℕ) → ℕ → ℕ → List A → Bool
 are_named name least most xs =
     nat_le least (length xs) && nat_le (length xs) most && list_all (λ x. is_name (name x)) xs

@@ -27,8 +27,8 @@ fn is_script(words: &[Word]) -> bool
 
 /// Runs a script: reads its lines from the source, and writes the replies to the sink. Answers the status of the program.
 ///
-/// What is due is a function of the bytes read alone, but for the lines that met want of memory, which are read off the
-/// output. It is told twice: by the state that the lines before left, and by the schema and the accepted commands alone. Where a source
+/// What is due is a function of the bytes read alone, except for lines that ran out of memory, which the output identifies.
+/// It is defined twice: by the state that the lines before left, and by the schema and the accepted commands alone. Where a source
 /// or a sink doesn't tell its bytes, the clauses on the status and its cause hold alone.
 pub fn run_script<S: Source, K: Sink, L>(
     alloc: Global,
@@ -43,7 +43,7 @@ pub fn run_script<S: Source, K: Sink, L>(
     ensures no_command { (result ≡ 2) ↔ ¬ IsScript words.now }
     ensures nothing_done { result ≡ 2 → (source.new ≡ source.old) × (sink.new ≡ sink.old) }
 
-    // Over every list of lines and every cut of the input, the accepted commands alone tell the state and what is due.
+    // Over every list of lines and every cut of the input, the accepted commands alone determine the state and what is due.
     ensures headline { Headline }
 
     // 0: the input was read to its end, and all that is due is written.

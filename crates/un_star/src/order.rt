@@ -1,4 +1,4 @@
-//! Lists in rising order, of elements that tie one.
+//! Sorted lists, with equal elements once.
 
 ghost use Rattle.std.specs.Prelude.{◌≡◌, IfOk, map};
 ghost use Rattle.un_defs.specs.Orders.{rising, tie_cmp, error_cmp};
@@ -8,7 +8,7 @@ use std::alloc::{AllocError, Global};
 use std::collections::BTreeSet;
 use un_defs::{LinkName, Tie, TopoError};
 
-/// The elements in rising order, of those that tie one.
+/// The elements sorted, equal ones once.
 pub(crate) fn rising<T: Ord + Copy>(alloc: Global, xs: &[T]) -> Result<Vec<T>, AllocError>
     ensures { IfOk result (λ ys. ys.items ≡ rising T.cmp xs.now) }
 {
