@@ -129,6 +129,7 @@ fn with_areas(dirty: &Dirty, alloc: Global, rects: &[Rect]) -> Result<Dirty, Ref
     ensures good { OnOk result (too_many dirty.now.areas rects.now ≡ None) }
     ensures bad { IfErr result (λ refusal. refusal ≢ Memory → too_many dirty.now.areas rects.now ≡ Some refusal) }
 {
+    // For the proof alone.
     let _len = dirty.len();
     match dirty.add(alloc, rects) {
         Ok(dirty) => Ok(dirty),
@@ -254,6 +255,7 @@ impl Net {
         ensures good { OnOk result (first_due (beside_numbers self.now edit.now) ≡ None) }
         ensures bad { IfErr result (λ refusal. refusal ≢ Memory → first_due (beside_numbers self.now edit.now) ≡ Some refusal) }
     {
+        // For the proof alone.
         let _rules = self.setup.schema.rules();
         let live = Live {
             schema: &self.setup.schema,

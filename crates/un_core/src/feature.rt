@@ -120,6 +120,7 @@ impl Net {
     pub(crate) fn feature(&self, alloc: Global, id: u64) -> Result<Reply, AllocError>
         ensures { IfOk result (λ reply. reply ≡ feature_reply self.now id) }
     {
+        // For the proof alone.
         let _rules = self.setup.schema.rules();
         let Some(row) = self.rows.row(id) else {
             return Ok(self.refused(Refusal::NoSuchFeature { id }));

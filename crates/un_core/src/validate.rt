@@ -79,6 +79,7 @@ impl Net {
             errors = with_errors(errors, &star)?;
             kept.put(alloc, *point, star)?;
         }
+        // For the proof alone.
         let _len = kept.len();
         Ok(Rebuilt { kept, errors })
     }

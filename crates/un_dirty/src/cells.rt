@@ -315,6 +315,7 @@ fn first_covering(areas: &Paged<u64, Rect>, numbers: &Numbers, p: Point) -> Opti
     ensures first { result ≡ option_map (λ e. e.0) (find (λ e. covers_at p e.0 areas.now) numbers.now) }
     ensures ordered { IsOrdered nat_cmp numbers.now }
 {
+    // For the proof alone.
     let _len = numbers.len();
     for (number, _) in numbers.range(Bound::Unbounded) {
         if covers_point(areas, number, p) {

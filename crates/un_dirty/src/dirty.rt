@@ -78,6 +78,7 @@ impl Dirty {
         ensures next { result ≡ self.now.next }
         ensures numbered { IsNumbered self.now }
     {
+        // For the proof alone.
         let _len = self.areas.len();
         self.next
     }
@@ -134,6 +135,7 @@ impl Dirty {
     pub fn clear_meeting(&self, alloc: Global, extent: Rect) -> Result<Dirty, Memory>
         ensures { IfOk result (λ d. d ≡ cleared self.now extent) }
     {
+        // For the proof alone.
         let _len = self.areas.len();
         let (areas, gone) = parted(&self.areas, alloc, &extent)?;
         let cells = without_areas(&self.cells, alloc, gone.as_slice())?;
@@ -151,6 +153,7 @@ impl Dirty {
         ensures first { result ≡ option_map (λ a. a.0) (find (λ a. covers a.1 p) self.now.areas) }
         ensures least { result ≡ least_number (map (λ a. a.0) (filter (λ a. covers a.1 p) self.now.areas)) }
     {
+        // For the proof alone.
         let _len = self.areas.len();
         least_over(&self.areas, &self.cells, self.levels, p)
     }
@@ -209,6 +212,7 @@ fn parted(
     ensures apart { IfOk result (λ r. r.0 ≡ filter (λ a. not (meets a.1 extent.now)) areas.now) }
     ensures met { IfOk result (λ r. r.1.items ≡ filter (λ a. meets a.1 extent.now) areas.now) }
 {
+    // For the proof alone.
     let _len = areas.len();
     let met = areas_meeting(areas, alloc, extent)?;
     let apart = without_all(areas, alloc, met.as_slice())?;

@@ -76,6 +76,7 @@ fn cut<K: Ord + Copy, V: Drop>(
 {
     match row.seek(key) {
         Ok(at) => {
+            // For the proof alone.
             let _kept = row.entry(at);
             row.spliced(alloc, at, 1, Row::empty(alloc))
         }

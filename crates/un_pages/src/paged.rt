@@ -65,6 +65,7 @@ impl<K: Ord + Copy, V: Drop> Paged<K, V> {
         ensures rest { IfSome result (λ p. past K.cmp after self.now ≡ pair_held p ∷ past K.cmp (Some p.0) self.now) }
         ensures last { IfNone result (past K.cmp after self.now ≡ []) }
     {
+        // For the proof alone.
         let _len = self.len();
         self.first_past(after)
     }
@@ -85,6 +86,7 @@ impl<K: Ord + Copy, V: Drop> Paged<K, V> {
         ensures fits { length result < 2 ^ 64 }
         ensures runs { ShowsInOrder (pair_held {K = K} {V = V} {Z = Global}) }
     {
+        // For the proof alone.
         let _len = self.len();
         match &self.root {
             Some(root) => root.range(&from),

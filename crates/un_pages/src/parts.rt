@@ -73,6 +73,7 @@ pub(crate) fn open<'a, K: Ord + Copy, V, T: Level<K, V>>(
     ensures { from_on K.cmp bound.now (flat T.pairs row.now) ≡ from_on K.cmp bound.now (T.pairs result.0.now) ++ flat T.pairs result.1 }
 {
     let at = row.start(bound);
+    // For the proof alone.
     let _len = row.len();
     let (_, part) = row.entry(at);
     (part, row.tail(at + 1))

@@ -120,6 +120,7 @@ impl<K: Ord + Copy, X> Row<K, X> {
         ensures rest { past K.cmp (Some key.now) self.now ≡ drop result self.now }
         ensures within { result ≤ length self.now }
     {
+        // For the proof alone.
         let _len = self.len();
         match self.seek(key) {
             Ok(at) => at + 1,

@@ -73,6 +73,7 @@ impl<V: Drop> PointMap<V> {
         ensures list { IfOk result (λ m. m ≡ remove_entry (is_at (point_cmp p)) self.now) }
         ensures values { IfOk result (λ m. (q : Point) → value_at q m ≡ (if same_point q p then None else value_at q self.now)) }
     {
+        // For the proof alone.
         let _len = self.pairs.len();
         Ok(PointMap {
             pairs: self.pairs.without(alloc, &p)?,
@@ -97,6 +98,7 @@ impl<V: Drop> PointMap<V> {
         ensures values { OnOk result ((q : Point) → value_at q self.new ≡ (if same_point q p then None else value_at q self.old)) }
         ensures err { OnErr result (self.new ≡ self.old) }
     {
+        // For the proof alone.
         let _len = self.pairs.len();
         self.pairs.take(alloc, &p)?;
         Ok(())
@@ -116,6 +118,7 @@ impl<V: Drop> PointMap<V> {
         ensures rest { IfSome result (λ e. covered_past extent.now after self.now ≡ pair_held e ∷ covered_past extent.now (Some e.0) self.now) }
         ensures last { IfNone result (covered_past extent.now after self.now ≡ []) }
     {
+        // For the proof alone.
         let _len = self.pairs.len();
         let mut passed = start(extent, after);
         while let Some((point, value)) = self.pairs.next(passed) {

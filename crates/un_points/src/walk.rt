@@ -44,6 +44,7 @@ impl<'a, V: Drop> Under<'a, V> {
     pub(crate) fn new(pairs: &'a Paged<Point, V>, extent: &Rect) -> Under<'a, V>
         ensures { result ≡ covered extent.now pairs.now }
     {
+        // For the proof alone.
         let _len = pairs.len();
         let first = before(extent);
         Under {

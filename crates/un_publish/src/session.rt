@@ -279,6 +279,7 @@ impl<M: Machine, J: BoardName<M>> Session<M, J> {
         requires own { self.old.own < length (entries_of self.old.number log.now) }
         ensures { self.new ≡ record self.old { seen = log.now; own = self.old.own + 1 } }
     {
+        // For the proof alone.
         let _most = log.len();
         self.reader = informed;
         self.prefix = log.again();

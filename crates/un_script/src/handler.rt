@@ -108,18 +108,21 @@ fn names(reply: &Reply)
             refusal: Refusal::NoSuchKind { kind },
             ..
         } => {
+            // For the proof alone.
             let _text = kind.text();
         }
         Reply::Refused {
             refusal: Refusal::BadAttribute { attribute },
             ..
         } => {
+            // For the proof alone.
             let _text = attribute.text();
         }
         Reply::Refused {
             refusal: Refusal::Conflict { subnet, .. },
             ..
         } => {
+            // For the proof alone.
             let _text = subnet.text();
         }
         _ => {}
@@ -131,6 +134,7 @@ fn few_edits(command: &Command)
     ensures { HasFewEdits command.now }
 {
     if let Command::Batch(edits) = command {
+        // For the proof alone.
         let _edits = edits.as_slice();
     }
 }

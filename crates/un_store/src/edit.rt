@@ -31,6 +31,7 @@ impl Store {
         ensures good { OnOk result (refusal_of schema.now self.now edit.now ≡ None) }
         ensures bad { IfErr result (λ refusal. refusal ≢ Memory → refusal_of schema.now self.now edit.now ≡ Some refusal) }
     {
+        // For the proof alone.
         let _rules = schema.rules();
         match edit {
             Edit::Insert { .. } => self.insert(alloc, edit, schema, next, moment),
