@@ -1,7 +1,6 @@
 pub mod Inserting
 pub mod Places
 pub mod Putting
-pub mod Numbered
 pub mod Gathering
 pub mod Taking
 pub mod Leaving

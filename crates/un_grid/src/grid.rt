@@ -6,7 +6,6 @@ ghost use Rattle.un_points.specs.PointMaps.{covered};
 ghost use Rattle.un_defs.specs.Orders.{port_cmp, same_port};
 ghost use Rattle.un_grid.specs.Grids.{ports_in, IsGrid, HasNodes, HasRow, LacksNodes, LacksRow, HasInPlace};
 
-use crate::nodes::nodes_of;
 use crate::port_list::{with_port, without_port};
 use std::alloc::{AllocError, Global};
 use std::marker::Model;
@@ -123,7 +122,7 @@ impl Grid {
     pub fn insert(&self, alloc: Global, row: &Row) -> Result<Grid, AllocError>
         ensures { IfOk result (λ g. HasRow self.now g row.now) }
     {
-        let nodes = nodes_of(alloc, row)?;
+        let nodes = row.nodes(alloc)?;
         let mut grid = self.share()?;
         grid.put_nodes(alloc, &nodes)?;
         Ok(grid)
@@ -133,7 +132,7 @@ impl Grid {
     pub fn remove(&self, alloc: Global, row: &Row) -> Result<Grid, AllocError>
         ensures { IfOk result (λ g. LacksRow self.now g row.now) }
     {
-        let nodes = nodes_of(alloc, row)?;
+        let nodes = row.nodes(alloc)?;
         let mut grid = self.share()?;
         grid.take_nodes(alloc, &nodes)?;
         Ok(grid)
@@ -143,8 +142,8 @@ impl Grid {
     pub fn replace(&self, alloc: Global, old: &Row, new: &Row) -> Result<Grid, AllocError>
         ensures { IfOk result (λ g. HasInPlace self.now g old.now new.now) }
     {
-        let gone = nodes_of(alloc, old)?;
-        let come = nodes_of(alloc, new)?;
+        let gone = old.nodes(alloc)?;
+        let come = new.nodes(alloc)?;
         let mut grid = self.share()?;
         grid.take_nodes(alloc, &gone)?;
         grid.put_nodes(alloc, &come)?;

@@ -18,11 +18,9 @@
 
 mod grid;
 mod laws;
-mod nodes;
 mod port_list;
 #[cfg(test)]
 mod tests;
 
 pub use grid::Grid;
 pub use laws::{insert_law, remove_law, replace_law, stay_law};
-pub use nodes::port_node;

@@ -12,7 +12,7 @@ use Rattle.un_defs.specs.Sound.{IsSound}
 use Rattle.un_defs.specs.Links.{link_of, Vertex, vertices_at, may_connect, chosen, has_chosen, passes_with, same_vertex, meeting, is_allowed, joins_to, only, joints_at, coin_of}
 use Rattle.un_defs.proofs.ListLemmas.{any-map, any-agree, only-map}
 use Rattle.un_star.specs.Meet.{joint_of, joints_here, end_of, ends_here, has_chosen_by, passes_by, is_allowed_by, joins_by}
-use Rattle.un_star.specs.Turns.{coin_by}
+use Rattle.un_star.specs.Links.{coin_by}
 use Rattle.un_star.proofs.Apart.{same_any, alike_only}
 use Rattle.un_star.proofs.Standers.{joint_rows, joints_here_are, alike_joints, vertex_rows, ends_here_are, same_vertices, joint_node, vertex_node}
 

@@ -1,4 +1,3 @@
-pub mod RowFacts
 pub mod ListSteps
 pub mod Grouping
 pub mod OrdersAlike
@@ -9,4 +8,4 @@ pub mod Standers
 pub mod Coins
 pub mod LinksHere
 pub mod EntriesHere
-pub mod FaultsHere
+pub mod ErrorsHere

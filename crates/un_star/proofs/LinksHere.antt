@@ -29,7 +29,7 @@ use Rattle.un_defs.proofs.BothEnds.{HasLink, IsTieBy, at_first, at_second, from_
 use Rattle.un_star.specs.declared.meet.Joint.{Joint}
 use Rattle.un_star.specs.declared.meet.End.{End}
 use Rattle.un_star.specs.Meet.{joint_of, end_of, ends_here, end_here}
-use Rattle.un_star.specs.Turns.{segment_before, segment_ties, path_between, path_ties, coin_by, coin_ties_by, ends_for, coin_ties, association_ties, node_ties}
+use Rattle.un_star.specs.Links.{segment_before, segment_ties, path_between, path_ties, coin_by, coin_ties_by, ends_for, coin_ties, association_ties, node_ties}
 use Rattle.un_star.proofs.Standers.{vertex_rows, ends_here_are, end_here_is, to_vertex_row, same_vertices, first_point, joint_node}
 use Rattle.un_star.proofs.Coins.{only_here, coin_same}
 

@@ -12,8 +12,8 @@ use Rattle.un_defs.specs.Sound.{IsSound}
 use Rattle.un_defs.specs.Links.{Link, link_of, path_link, has_path, flows_from_to, current_path, terminals_of, ties_by, is_device}
 use Rattle.un_defs.proofs.LinkCases.{below_length, some_same}
 use Rattle.un_defs.proofs.ListLemmas.{flat_map-none}
-use Rattle.un_star.specs.Turns.{path_ties, path_between, path_link_by, path_ties_by}
-use Rattle.un_star.proofs.RowFacts.{fits}
+use Rattle.un_star.specs.Links.{path_ties, path_between, path_link_by, path_ties_by}
+use Rattle.un_defs.proofs.RowFacts.{fits}
 
 -- ---- where there is no path
 

@@ -12,7 +12,7 @@ use Rattle.un_defs.specs.Ports.{node_of, port_numbers_of, point_of_port, shape_p
 use Rattle.un_defs.specs.Links.{link_of, segment, goes_along, goes_against}
 use Rattle.un_defs.specs.Errors.{least_port_at}
 use Rattle.un_defs.proofs.LinkCases.{line_class}
-use Rattle.un_star.specs.Faults.{stands_as}
+use Rattle.un_star.specs.Errors.{stands_as}
 
 -- the next of so many ports
 pub find_next : (p : ℕ → Bool) (from before count : ℕ) → before < count → p (from + before) ≡ false

@@ -14,7 +14,7 @@ use Rattle.un_defs.specs.Features.{Features, row, associations_of}
 use Rattle.un_defs.specs.Ports.{ports}
 use Rattle.un_defs.specs.Permit.{permitted}
 use Rattle.un_defs.specs.Star.{controller_at, is_containment, is_attachment}
-use Rattle.un_star.specs.Turns.{node_ties}
+use Rattle.un_star.specs.Links.{node_ties}
 
 -- the permitted associations of a sort, of which the row is an end
 abbrev pub permitted_at : Features → (AssocKind → Bool) → ℕ → List Assoc

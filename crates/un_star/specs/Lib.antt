@@ -1,5 +1,5 @@
 pub mod Meet
-pub mod Turns
+pub mod Links
 pub mod Entries
-pub mod Faults
+pub mod Errors
 pub mod Named

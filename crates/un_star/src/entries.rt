@@ -8,12 +8,12 @@ ghost use Rattle.un_defs.specs.Star.{controller_at, is_containment, is_attachmen
 ghost use Rattle.un_star.specs.Meet.{IsMeeting};
 ghost use Rattle.un_star.specs.Entries.{permitted_at, container_among, contents_among, structures_among, spot_here, spots_here};
 
+use crate::links::ties_of;
 use crate::meet::Meeting;
-use crate::order::rising;
 use crate::permit::permitted;
-use crate::turns::ties_of;
 use std::alloc::{AllocError, Global};
 use un_attrs::Cats;
+use un_defs::order::rising;
 use un_defs::{Assoc, AssocKind, Controller, Ids, Node, Port, Row, Rows, Spot};
 use un_schema::Schema;
 
@@ -21,21 +21,24 @@ use un_schema::Schema;
 fn containments<R: Rows>(alloc: Global, rows: &R, id: u64) -> Result<Vec<Assoc>, AllocError>
     ensures { IfOk result (λ found. found.items ≡ permitted_at (R.features rows.now) is_containment id) }
 {
-    rows.assocs_of(id)
-        .iter()
+    let all = rows.assocs_of(alloc, id)?;
+    all.iter()
         .copied()
         .filter(|assoc| assoc.sort == AssocKind::Containment && permitted(rows, assoc))
         .collect(alloc)
 }
 
-/// The permitted associations by which something is attached to the row or the row to something.
+/// The associations by which the row is attached to a structure, where the rules permit it. What is attached to the row itself, which may be
+/// much, is passed over before the rules are asked.
 fn attachments<R: Rows>(alloc: Global, rows: &R, id: u64) -> Result<Vec<Assoc>, AllocError>
-    ensures { IfOk result (λ found. found.items ≡ permitted_at (R.features rows.now) is_attachment id) }
+    ensures { IfOk result (λ found. found.items ≡ filter (λ a. a.to.feature == id) (permitted_at (R.features rows.now) is_attachment id)) }
 {
-    rows.assocs_of(id)
-        .iter()
+    let all = rows.assocs_of(alloc, id)?;
+    all.iter()
         .copied()
-        .filter(|assoc| assoc.sort == AssocKind::Attachment && permitted(rows, assoc))
+        .filter(|assoc| {
+            assoc.to.feature == id && assoc.sort == AssocKind::Attachment && permitted(rows, assoc)
+        })
         .collect(alloc)
 }
 
@@ -75,21 +78,18 @@ fn contents(alloc: Global, found: &[Assoc], id: u64) -> Result<Ids, AllocError>
     Ok(Ids::new(ids))
 }
 
-fn structure_ids(alloc: Global, found: &[Assoc], id: u64) -> Result<Vec<u64>, AllocError>
-    ensures { IfOk result (λ ids. ids.items ≡ map (λ a. a.from.feature) (filter (λ a. a.to.feature == id) found.now)) }
+fn structure_ids(alloc: Global, found: &[Assoc]) -> Result<Vec<u64>, AllocError>
+    ensures { IfOk result (λ ids. ids.items ≡ map (λ a. a.from.feature) found.now) }
 {
-    found
-        .iter()
-        .filter(|assoc| assoc.to.feature == id)
-        .map(|assoc| assoc.from.feature)
-        .collect(alloc)
+    found.iter().map(|assoc| assoc.from.feature).collect(alloc)
 }
 
 /// The ids of the structures to which the row is attached, rising.
-fn structures(alloc: Global, found: &[Assoc], id: u64) -> Result<Ids, AllocError>
-    ensures { IfOk result (λ ids. ids ≡ structures_among found.now id) }
+fn structures<R: Rows>(alloc: Global, rows: &R, id: u64) -> Result<Ids, AllocError>
+    ensures { IfOk result (λ ids. ids ≡ structures_among (permitted_at (R.features rows.now) is_attachment id) id) }
 {
-    let ids = structure_ids(alloc, found, id)?;
+    let found = attachments(alloc, rows, id)?;
+    let ids = structure_ids(alloc, found.as_slice())?;
     let ids = rising(alloc, ids.as_slice())?;
     Ok(Ids::new(ids))
 }
@@ -144,8 +144,7 @@ fn spot<R: Rows>(
     let controller = controller(alloc, rows, port)?;
     let contained = containments(alloc, rows, row.id)?;
     let contents = contents(alloc, contained.as_slice(), row.id)?;
-    let attached = attachments(alloc, rows, row.id)?;
-    let structures = structures(alloc, attached.as_slice(), row.id)?;
+    let structures = structures(alloc, rows, row.id)?;
     Ok(Spot {
         port,
         kind: row.kind,

@@ -13,11 +13,11 @@
 //! its terminal; a group remembers its first end, and whether it has more. So whether a rule joins an end with another one through the device
 //! or junction is asked once for each group, and not once for each other end: a group of which the end itself is the only one doesn't count.
 //!
-//! Then each port has its links ([`turns`]): at most two segments of its line; the paths from its terminal to each other one; its link with
+//! Then each port has its links ([`links`]): at most two segments of its line; the paths from its terminal to each other one; its link with
 //! what meets there, which is one for a vertex and one for each end that joins at the terminal for a device or junction; and those of the
 //! permitted associations of its row. They are put in the order of their names. The rest of the entry is looked up ([`entries`]).
 //!
-//! The errors ([`faults`]) are those of what meets at the point, and those of the associations of the rows there that are not permitted, at
+//! The errors ([`errors`]) are those of what meets at the point, and those of the associations of the rows there that are not permitted, at
 //! whichever of their ends stands there. They are put in order, and each stands once.
 //!
 //! # Why that is enough
@@ -34,11 +34,11 @@
 #![tactic(auto)]
 
 mod entries;
-mod faults;
+mod errors;
+mod links;
 mod meet;
 mod order;
 mod permit;
 pub mod star;
-mod turns;
 
 pub use star::build;

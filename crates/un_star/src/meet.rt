@@ -7,8 +7,8 @@ ghost use Rattle.un_schema.specs.Catalog.{any_vertex};
 ghost use Rattle.un_defs.specs.Links.{only};
 ghost use Rattle.un_star.specs.Meet.{joint_here, joints_here, end_here, ends_here, chosen_by, has_chosen_by, joins_by, noted, passes_group, TakesIn, AreGroups, IsMeeting, again};
 
-use crate::permit::is_joint;
 use std::alloc::{AllocError, Global};
+use un_defs::ports::is_joint;
 use un_defs::{Port, Rows};
 use un_geom::Point;
 use un_schema::{Class, Policy, Schema};

@@ -1,24 +1,12 @@
-//! Sorted lists, with equal elements once.
+//! Links and errors in their orders.
 
 ghost use Rattle.std.specs.Prelude.{◌≡◌, IfOk, map};
 ghost use Rattle.un_defs.specs.Orders.{rising, tie_cmp, error_cmp};
 ghost use Rattle.un_star.specs.Named.{named};
 
 use std::alloc::{AllocError, Global};
-use std::collections::BTreeSet;
+use un_defs::order::rising;
 use un_defs::{LinkName, Tie, TopoError};
-
-/// The elements sorted, equal ones once.
-pub(crate) fn rising<T: Ord + Copy>(alloc: Global, xs: &[T]) -> Result<Vec<T>, AllocError>
-    ensures { IfOk result (λ ys. ys.items ≡ rising T.cmp xs.now) }
-{
-    let mut set = BTreeSet::new(alloc);
-    let count = xs.len();
-    for done in 0..count {
-        set.insert(xs[count - 1 - done])?;
-    }
-    set.into_iter().collect(alloc)
-}
 
 /// A link as one of its two ends has it, which compares by the link's name.
 #[derive(Clone, Copy)]

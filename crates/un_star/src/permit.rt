@@ -1,25 +1,10 @@
 //! Which associations the rules permit.
 
 ghost use Rattle.std.specs.Prelude.{◌≡◌};
-ghost use Rattle.un_defs.specs.Features.{is_joint, has_terminal};
 ghost use Rattle.un_defs.specs.Permit.{allowed, permitted};
 
 use un_defs::{Assoc, AssocKind, Row, Rows};
-use un_schema::{Class, Schema};
-
-/// Whether features of the class have terminals.
-pub(crate) fn is_joint(class: Class) -> bool
-    ensures { result ≡ is_joint class }
-{
-    matches!(class, Class::Device | Class::Junction)
-}
-
-/// Whether the row has the terminal with this number.
-fn has_terminal(row: &Row, terminal: u8) -> bool
-    ensures { result ≡ has_terminal row.now terminal }
-{
-    is_joint(row.class) && 1 <= terminal && terminal <= row.terminals
-}
+use un_schema::Schema;
 
 /// Whether a rule allows the association between two rows.
 fn allowed(schema: &Schema, assoc: &Assoc, from: &Row, to: &Row) -> bool
@@ -27,8 +12,8 @@ fn allowed(schema: &Schema, assoc: &Assoc, from: &Row, to: &Row) -> bool
 {
     match assoc.sort {
         AssocKind::Connectivity => {
-            has_terminal(from, assoc.from.number)
-                && has_terminal(to, assoc.to.number)
+            from.has_terminal(assoc.from.number)
+                && to.has_terminal(assoc.to.number)
                 && schema.allows_pair(from.kind, assoc.from.number, to.kind, assoc.to.number)
         }
         AssocKind::Containment => schema.allows_content(from.kind, to.kind),

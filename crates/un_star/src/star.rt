@@ -3,7 +3,7 @@ ghost use Rattle.std.specs.Prelude.{◌≡◌, IfOk};
 ghost use Rattle.un_defs.specs.Star.{star};
 
 use crate::entries::spots_here;
-use crate::faults::errors_here;
+use crate::errors::errors_here;
 use crate::meet::meet;
 use std::alloc::{AllocError, Global};
 use un_defs::star::{Spots, TopoErrors};

@@ -7,7 +7,7 @@ ghost use Rattle.un_star_rows.specs.Lists.{features_of, only, IsNumbered, row_id
 
 use crate::parts::{Assocs, at_number, found, gridded, may_control, paired, planned, touching};
 use crate::plan::{NotSound, Pair, Plan};
-use std::alloc::Global;
+use std::alloc::{AllocError, Global};
 use un_defs::{Assoc, Controller, Port, Row, Rows};
 use un_geom::Point;
 use un_grid::Grid;
@@ -75,10 +75,10 @@ impl Rows for Listed {
         self.grid.at(p)
     }
 
-    fn assocs_of(&self, id: u64) -> &[Assoc] {
+    fn assocs_of(&self, alloc: Global, id: u64) -> Result<Vec<Assoc>, AllocError> {
         match at_number(self.touching.as_slice(), id) {
-            Some(assocs) => assocs.as_slice(),
-            None => &[],
+            Some(assocs) => assocs.as_slice().to_vec(alloc),
+            None => Ok(Vec::new(alloc)),
         }
     }
 

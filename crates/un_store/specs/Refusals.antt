@@ -1,4 +1,5 @@
 -- What is looked at before an edit of a row is made, in order, and the refusal that is due.
+pub use Rattle.un_defs.specs.Dues.{first_due, due_if}
 use Rattle.std.specs.Prelude.{ℕ, nat_lt, ◌==◌, ℤ, Bool, true, false, not, ◌&&◌, List, [], ◌∷◌, map, length, slice_get, Option, Some, None, is_some, option_and_then}
 use Rattle.std.specs.List.{list_all}
 use Rattle.std.specs.Option.{option_map, option_map_or}
@@ -19,17 +20,6 @@ use Rattle.un_defs.specs.declared.refusal.Limit.TheVariants as limit
 use Rattle.un_defs.specs.Features.{is_line}
 use Rattle.un_defs.specs.Sound.{least_points, most_points}
 use Rattle.un_store.specs.Keyed.{row_with}
-
--- the first refusal of several that may be due
-abbrev pub first_due : List (Option Refusal) → Option Refusal
-first_due [] = None
-first_due (None ∷ dues) = first_due dues
-first_due (Some r ∷ dues) = Some r
-
--- a refusal that is due where the test holds
-abbrev pub due_if : Bool → Refusal → Option Refusal
-due_if true r = Some r
-due_if false r = None
 
 -- ---- of kinds
 

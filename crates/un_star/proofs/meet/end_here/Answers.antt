@@ -1,6 +1,6 @@
 use Rattle.std.proofs.Common.{◌<◌, length, sym, subst}
 use Rattle.un_schema.specs.Catalog.{Catalog}
-use Rattle.un_star.proofs.RowFacts.{kind_lives}
+use Rattle.un_defs.proofs.RowFacts.{kind_lives}
 use Rattle.un_star.proofs.meet.end_here.Goals as goal
 
 pub any_vertex-requires : goal.any_vertex-requires

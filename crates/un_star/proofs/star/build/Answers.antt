@@ -8,9 +8,9 @@ use Rattle.un_defs.specs.Errors.{errors}
 use Rattle.un_defs.specs.Sound.{IsSound}
 use Rattle.un_defs.specs.Star.{star, spots}
 use Rattle.un_star.specs.Entries.{spots_here}
-use Rattle.un_star.specs.Faults.{errors_here}
+use Rattle.un_star.specs.Errors.{errors_here}
 use Rattle.un_star.proofs.EntriesHere.{spots_are}
-use Rattle.un_star.proofs.FaultsHere.{errors_are}
+use Rattle.un_star.proofs.ErrorsHere.{errors_are}
 use Rattle.un_star.proofs.star.build.Goals as goal
 
 -- the entries and errors by the ports at the point are those of the star
