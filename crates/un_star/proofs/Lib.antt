@@ -1,4 +1,5 @@
 pub mod ListSteps
+pub mod Filtering
 pub mod Grouping
 pub mod OrdersAlike
 pub mod Places

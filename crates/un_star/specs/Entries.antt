@@ -20,6 +20,10 @@ use Rattle.un_star.specs.Links.{node_ties}
 abbrev pub permitted_at : Features → (AssocKind → Bool) → ℕ → List Assoc
 permitted_at F is_sort id = filter (λ a. is_sort a.sort && permitted F a) (associations_of F id)
 
+-- the permitted associations by which the row is attached to a structure
+abbrev pub attached_at : Features → ℕ → List Assoc
+attached_at F id = filter (λ a. is_attachment a.sort && permitted F a) (filter (λ a. a.to.feature == id) (associations_of F id))
+
 -- the container that the first association tells of which the row is the content, 0 where there is none
 abbrev pub container_among : List Assoc → ℕ → ℕ
 container_among found id = option_map_or (λ a. a.from.feature) (find (λ a. a.to.feature == id) found) 0

@@ -6,7 +6,7 @@ ghost use Rattle.un_schema.specs.Catalog.{cats_of};
 ghost use Rattle.un_defs.specs.Features.{row as row_of};
 ghost use Rattle.un_defs.specs.Star.{controller_at, is_containment, is_attachment};
 ghost use Rattle.un_star.specs.Meet.{IsMeeting};
-ghost use Rattle.un_star.specs.Entries.{permitted_at, container_among, contents_among, structures_among, spot_here, spots_here};
+ghost use Rattle.un_star.specs.Entries.{permitted_at, attached_at, container_among, contents_among, structures_among, spot_here, spots_here};
 
 use crate::links::ties_of;
 use crate::meet::Meeting;
@@ -28,17 +28,16 @@ fn containments<R: Rows>(alloc: Global, rows: &R, id: u64) -> Result<Vec<Assoc>,
         .collect(alloc)
 }
 
-/// The associations by which the row is attached to a structure, where the rules permit it. What is attached to the row itself, which may be
-/// much, is passed over before the rules are asked.
+/// The permitted associations by which the row is attached to a structure. What is attached to the row itself, which may be much, is passed over
+/// before the rules are asked.
 fn attachments<R: Rows>(alloc: Global, rows: &R, id: u64) -> Result<Vec<Assoc>, AllocError>
-    ensures { IfOk result (λ found. found.items ≡ filter (λ a. a.to.feature == id) (permitted_at (R.features rows.now) is_attachment id)) }
+    ensures { IfOk result (λ found. found.items ≡ attached_at (R.features rows.now) id) }
 {
     let all = rows.assocs_of(alloc, id)?;
     all.iter()
         .copied()
-        .filter(|assoc| {
-            assoc.to.feature == id && assoc.sort == AssocKind::Attachment && permitted(rows, assoc)
-        })
+        .filter(|assoc| assoc.to.feature == id)
+        .filter(|assoc| assoc.sort == AssocKind::Attachment && permitted(rows, assoc))
         .collect(alloc)
 }
 
