@@ -5,7 +5,7 @@ ghost use Rattle.un_defs.specs.Sound.{IsSound};
 ghost use Rattle.un_grid.specs.Grids.{IsGridOf};
 ghost use Rattle.un_star_rows.specs.Lists.{features_of, only, IsNumbered, row_id, touching_of};
 
-use crate::parts::{Assocs, at_number, found, gridded, may_control, paired, planned, touching};
+use crate::parts::{Assocs, at_number, copied, found, gridded, may_control, paired, planned, touching};
 use crate::plan::{NotSound, Pair, Plan};
 use std::alloc::{AllocError, Global};
 use un_defs::{Assoc, Controller, Port, Row, Rows};
@@ -77,7 +77,10 @@ impl Rows for Listed {
 
     fn assocs_of(&self, alloc: Global, id: u64) -> Result<Vec<Assoc>, AllocError> {
         match at_number(self.touching.as_slice(), id) {
-            Some(assocs) => assocs.as_slice().to_vec(alloc),
+            Some(assocs) => {
+                let found = copied(alloc, assocs.as_slice())?;
+                Ok(found)
+            }
             None => Ok(Vec::new(alloc)),
         }
     }

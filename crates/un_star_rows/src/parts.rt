@@ -189,3 +189,11 @@ pub(crate) fn touching(
     }
     Ok(all)
 }
+
+/// The same associations, in a list of their own.
+pub(crate) fn copied(alloc: Global, assocs: &[Assoc]) -> Result<Vec<Assoc>, AllocError>
+    ensures { IfOk result (λ found. found.items ≡ assocs.now) }
+{
+    let found = assocs.to_vec(alloc)?;
+    Ok(found)
+}

@@ -3,15 +3,15 @@ use Rattle.un_star_rows.specs.Lists.{at_number}
 use Rattle.un_star_rows.proofs.Sounding.{none_stands, stands_under}
 use Rattle.un_star_rows.proofs.listed.ListedRows.assocs_of.Goals as goal
 
-pub returns-in-Some : goal.returns-in-Some
-returns-in-Some c =
+pub returns-in_ok-found-in-Some : goal.returns-in_ok-found-in-Some
+returns-in_ok-found-in-Some c =
     let l = c.args.self.now in
-    c.as_slice-in-Some.ensures
+    c.in_ok-found-in-Some.ensures ∙ c.as_slice-in-Some.ensures
     ∙ stands_under l.assocs.items (length l.rows.items) c.args.id c.in-Some.assocs.now
     (ap (λ all. at_number all c.args.id) (sym (c.as_slice.ensures.value ∙ l.ends)) ∙ sym c.in-Some.ensures)
 
 pub returns-in-None : goal.returns-in-None
 returns-in-None c =
     let l = c.args.self.now in
-    sym (none_stands l.schema l.rows.items l.assocs.items l.controller l.numbered l.sound c.args.id
+    c.new.ensures.items ∙ sym (none_stands l.schema l.rows.items l.assocs.items l.controller l.numbered l.sound c.args.id
     (ap (λ all. at_number all c.args.id) (sym (c.as_slice.ensures.value ∙ l.ends)) ∙ sym c.in-None.ensures))
