@@ -6,56 +6,40 @@ use Rattle.std.specs.Option.{option_map, option_map_or}
 use Rattle.un_schema.specs.declared.place.Place.TheVariants as place
 use Rattle.un_schema.specs.Sound.{IsCatalog}
 use Rattle.un_defs.specs.declared.edit.Edit.{Edit}
-use Rattle.un_defs.specs.declared.edit.Edit.TheVariants as edit
 use Rattle.un_defs.specs.declared.refusal.Refusal.{Refusal}
 use Rattle.un_defs.specs.declared.refusal.Refusal.TheVariants as refusal
 use Rattle.un_defs.specs.Laws.{MayBeMade}
 use Rattle.un_defs.proofs.LinkCases.{both_true}
 use Rattle.un_ask.specs.declared.request.Command.{Command}
 use Rattle.un_ask.specs.declared.request.Command.TheVariants as command
-use Rattle.un_store.specs.Words.{IsRowEdit}
-use Rattle.un_store.specs.Edits.{IsOfRow}
-use Rattle.un_store.specs.Refusals.{first_due, refusal_of}
-use Rattle.un_store.proofs.Makings.{fits_alone}
+use Rattle.un_defs.specs.Dues.{first_due}
 use Rattle.un_store.proofs.Fitting.{none_due}
-use Rattle.un_store.proofs.EditsFit.{edit_fits}
-use Rattle.un_core.specs.declared.setup.Setup.{Setup}
-use Rattle.un_core.specs.State.{State}
+use Rattle.un_facts.specs.Refusals.{is_of_features, refusal_of}
+use Rattle.un_facts.proofs.Alone.{unmapped, fails}
+use Rattle.un_facts.proofs.Makeable.{made}
+use Rattle.un_facts.specs.declared.setup.Setup.{Setup}
+use Rattle.un_core.specs.State.{State, known, next_ids}
 use Rattle.un_core.specs.Step.{setting, next_with, made_at, made_by_all, next_state}
 use Rattle.un_core.specs.Cover.{IsState, MayAllBeMade, MayHappen, MayAllHappen}
-use Rattle.un_core.specs.Refusals.{numbers_due, standing_due, beside_numbers, first_refused}
-use Rattle.un_core.specs.RowEdits.{is_row_edit}
+use Rattle.un_core.specs.Refusals.{numbers_due, beside_numbers, first_refused}
 use Rattle.un_core.specs.Commands.{is_known, unknown, known_due, first_refusal}
 use Rattle.un_core.specs.Accepted.{IsAfter, MayLaw, SetupLaw, OpeningLaw, AfterLaw, VersionLaw}
-use Rattle.un_core.proofs.Alone.{alone, unmapped, fails}
 use Rattle.un_core.proofs.CoverKept.{made_state, cover_is_kept}
 use Rattle.un_core.proofs.Opening.{opening_state}
 use Rattle.un_core.proofs.HistoryKept.{kept_is_history}
 
--- ---- edits of rows
+-- ---- the edits of a batch
 
--- each of the edits is one of a row
-abbrev AreRowEdits : List Edit → Type 0
-AreRowEdits [] = ⊤
-AreRowEdits (e ∷ es) = IsRowEdit e × AreRowEdits es
+-- each of the edits is one of the features
+abbrev AreOfFeatures : List Edit → Type 0
+AreOfFeatures [] = ⊤
+AreOfFeatures (e ∷ es) = (is_of_features e ≡ true) × AreOfFeatures es
 
-pub row_edit : (e : Edit) → is_row_edit e ≡ true → IsRowEdit e
-row_edit (edit.Insert kind points attrs flow ends note) is = tt
-row_edit (edit.Reshape id base points) is = tt
-row_edit (edit.Attrs id base attrs) is = tt
-row_edit (edit.Kind id base kind) is = tt
-row_edit (edit.Path id base path) is = tt
-row_edit (edit.Flow id base flow) is = tt
-row_edit (edit.Ends id base ends) is = tt
-row_edit (edit.Note id base note) is = tt
-row_edit (edit.Delete id base) is = tt
-row_edit _ is = absurd (true≢false (sym is))
-
-row_edits : (es : List Edit) → list_all is_row_edit es ≡ true → AreRowEdits es
-row_edits [] all = tt
-row_edits (e ∷ es) all =
-    let both = both_true (is_row_edit e) (list_all is_row_edit es) all in
-    (row_edit e both.0, row_edits es both.1)
+all_of_features : (es : List Edit) → list_all is_of_features es ≡ true → AreOfFeatures es
+all_of_features [] all = tt
+all_of_features (e ∷ es) all =
+    let both = both_true (is_of_features e) (list_all is_of_features es) all in
+    (both.0, all_of_features es both.1)
 
 -- ---- the schema and the tiers stay
 
@@ -69,34 +53,10 @@ same_setup s _ = refl
 
 -- ---- what is accepted might happen
 
-module _ (s : State) (is : IsState s) (schema : IsCatalog s.setup.schema) (moment : ℕ) where
-  abbrev MayBe : Edit → Type 0
-  MayBe = MayBeMade (setting s) (next_with s moment) s.features
-
-  -- the row that it leaves fits its kind
-  fitting : (a : Edit) → IsOfRow a → refusal_of s.setup.schema s.features.rows a ≡ None → MayBe a
-  fitting a word due =
-      fits_alone (setting s) (next_with s moment) s.features a word
-      (edit_fits s.setup.schema s.next_feature moment s.features.rows a schema is.sound.kinds word due)
-
-  may_edit : (a : Edit) → IsRowEdit a → refusal_of s.setup.schema s.features.rows a ≡ None → standing_due s.features a ≡ None → MayBe a
-  may_edit (edit.Insert kind points attrs flow ends note) word due stands = fitting (edit.Insert kind points attrs flow ends note) tt due
-  may_edit (edit.Reshape id base points) word due stands = fitting (edit.Reshape id base points) tt due
-  may_edit (edit.Attrs id base attrs) word due stands = tt
-  may_edit (edit.Kind id base kind) word due stands = fitting (edit.Kind id base kind) tt due
-  may_edit (edit.Path id base path) word due stands = fitting (edit.Path id base path) tt due
-  may_edit (edit.Flow id base flow) word due stands = tt
-  may_edit (edit.Ends id base ends) word due stands = tt
-  may_edit (edit.Note id base note) word due stands = tt
-  may_edit (edit.Delete id base) word due stands = alone s.features id base stands
-  may_edit _ word due stands = absurd word
-
-  -- of an edit that is made nothing is due, neither of the rows nor of what stands on them
-  pub edit_may_be_made : (a : Edit) → IsRowEdit a → first_due (beside_numbers s a) ≡ None → MayBe a
-  edit_may_be_made a word due =
-      let behind_rows = none_due (refusal_of s.setup.schema s.features.rows a) _ due in
-      let behind_standing = none_due (standing_due s.features a) _ behind_rows.1 in
-      may_edit a word behind_rows.0 behind_standing.0
+pub edit_may_be_made : (s : State) → IsState s → IsCatalog s.setup.schema → (moment : ℕ) → (e : Edit) → is_of_features e ≡ true
+    → first_due (beside_numbers s e) ≡ None → MayBeMade (setting s) (next_with s moment) s.features e
+edit_may_be_made s is schema moment e word due =
+    made (known s) (next_ids s) moment schema is.sound e word (none_due (refusal_of (known s) e) _ due).0
 
 none_some : {A : Type 0} {x : A} → None ≡ Some x → ⊥
 none_some h = cc
@@ -111,7 +71,7 @@ none_refused s place e es none = go (first_due (beside_numbers s e)) none
     go None none = (refl, none)
     go (Some r) none = absurd (none_some (sym none))
 
-pub batch_may_be_made : (s : State) (place : ℕ) (es : List Edit) → IsState s → IsCatalog s.setup.schema → AreRowEdits es → first_refused s place es ≡ None → MayAllBeMade s es
+pub batch_may_be_made : (s : State) (place : ℕ) (es : List Edit) → IsState s → IsCatalog s.setup.schema → AreOfFeatures es → first_refused s place es ≡ None → MayAllBeMade s es
 batch_may_be_made s place [] is schema words none = tt
 batch_may_be_made s place (e ∷ es) is schema words none =
     let both = none_refused s place e es none in
@@ -124,11 +84,11 @@ known_so false e = absurd (true≢false e)
 
 -- a command that is known and of which nothing is due
 known_may_happen : (s : State) (c : Command) → IsState s → IsCatalog s.setup.schema → is_known c ≡ true → known_due s c ≡ None → MayHappen s c
-known_may_happen s (command.Edit e) is schema known due = edit_may_be_made s is schema (s.version + 1) e (row_edit e known) (none_due (numbers_due s) _ due).1
+known_may_happen s (command.Edit e) is schema known due = edit_may_be_made s is schema (s.version + 1) e known (none_due (numbers_due s) _ due).1
 known_may_happen s (command.Batch es) is schema known due =
     let behind_numbers = none_due (numbers_due s) _ due in
     let refused = none_due (option_map (λ p. p.1) (first_refused s 0 es)) [] behind_numbers.1 in
-    batch_may_be_made s 0 es is schema (row_edits es known) (unmapped (λ p. p.1) (first_refused s 0 es) refused.0)
+    batch_may_be_made s 0 es is schema (all_of_features es known) (unmapped (λ p. p.1) (first_refused s 0 es) refused.0)
 known_may_happen s (command.Validate extent) is schema known due = tt
 known_may_happen s _ is schema known due = absurd (true≢false (sym known))
 

@@ -8,17 +8,17 @@ use Rattle.un_defs.specs.declared.edit.Edit.{Edit}
 use Rattle.un_defs.specs.declared.edit.Edit.TheVariants as edit
 use Rattle.un_defs.specs.declared.refusal.Refusal.{Refusal}
 use Rattle.un_defs.specs.declared.refusal.Refusal.TheVariants as refusal
-use Rattle.un_defs.specs.Stain.{stain}
-use Rattle.un_store.specs.Refusals.{first_due, due_if}
+use Rattle.un_defs.specs.Dirtied.{dirtied}
+use Rattle.un_defs.specs.Dues.{first_due, due_if}
 use Rattle.un_ask.specs.declared.word.EditWord.{EditWord}
 use Rattle.un_ask.specs.declared.request.Command.{Command}
 use Rattle.un_ask.specs.declared.request.Command.TheVariants as command
 use Rattle.un_ask.specs.declared.reply.Reply.TheVariants as reply
 use Rattle.un_core.specs.State.{State}
-use Rattle.un_core.specs.Step.{id_of, ids_of_all, stain_of_batch, edited, batched, next_state, stain_of}
+use Rattle.un_core.specs.Step.{id_of, ids_of_all, dirtied_by_batch, edited, batched, next_state, dirtied_by}
 use Rattle.un_core.specs.Validation.{met, errors_under, validated}
 use Rattle.un_core.specs.Refusals.{edit_due, batch_due, refused_place, numbers_due}
-use Rattle.un_core.specs.RowEdits.{is_row_edit}
+use Rattle.un_facts.specs.Refusals.{is_of_features}
 use Rattle.un_core.specs.Commands.{is_known, known_due, first_refusal, refusal_reply, refused_edit, accepted, step, word_of, areas_of_edit, edit_reply, first_and_count, refused}
 
 some_none : {A : Type 0} {x : A} → Some x ≡ None → ⊥
@@ -28,13 +28,13 @@ some_none e = cc
 
 module _ (s : State) (c : Command) where
   by_first : (d : Option Refusal) → first_refusal s c ≡ d
-      → step s c ≡ option_map_or (λ r. inr (refusal_reply s c r)) d (inl (next_state s c, (accepted s c, stain_of s c)))
-  by_first d is = ap (λ d. option_map_or (λ r. inr (refusal_reply s c r)) d (inl (next_state s c, (accepted s c, stain_of s c)))) is
+      → step s c ≡ option_map_or (λ r. inr (refusal_reply s c r)) d (inl (next_state s c, (accepted s c, dirtied_by s c)))
+  by_first d is = ap (λ d. option_map_or (λ r. inr (refusal_reply s c r)) d (inl (next_state s c, (accepted s c, dirtied_by s c)))) is
 
   first_is : (b : Bool) (d : Option Refusal) → is_known c ≡ b → known_due s c ≡ d → first_refusal s c ≡ first_due (due_if (not b) (refusal.BadRequest place.Do) ∷ d ∷ [])
   first_is b d known due = λ i. first_due (due_if (not (known i)) (refusal.BadRequest place.Do) ∷ due i ∷ [])
 
-  pub step_done : is_known c ≡ true → known_due s c ≡ None → step s c ≡ inl (next_state s c, (accepted s c, stain_of s c))
+  pub step_done : is_known c ≡ true → known_due s c ≡ None → step s c ≡ inl (next_state s c, (accepted s c, dirtied_by s c))
   step_done known none = by_first None (first_is true None known none)
 
   pub step_refused : (r : Refusal) → is_known c ≡ true → known_due s c ≡ Some r → step s c ≡ inr (refusal_reply s c r)
@@ -54,8 +54,8 @@ module _ (s : State) (c : Command) where
 
 -- ---- edits
 
--- an edit of a row has a word
-pub has_word : (e : Edit) → is_row_edit e ≡ true → word_of e ≡ None → ⊥
+-- an edit of the features has a word
+pub has_word : (e : Edit) → is_of_features e ≡ true → word_of e ≡ None → ⊥
 has_word (edit.Insert kind points attrs flow ends note) known none = some_none none
 has_word (edit.Reshape id base points) known none = some_none none
 has_word (edit.Attrs id base attrs) known none = some_none none
@@ -65,10 +65,16 @@ has_word (edit.Flow id base flow) known none = some_none none
 has_word (edit.Ends id base ends) known none = some_none none
 has_word (edit.Note id base note) known none = some_none none
 has_word (edit.Delete id base) known none = some_none none
+has_word (edit.Connect from to) known none = some_none none
+has_word (edit.Contain container content) known none = some_none none
+has_word (edit.Attach structure content) known none = some_none none
+has_word (edit.Detach assoc) known none = some_none none
+has_word (edit.Controller id terminal tier subnet) known none = some_none none
+has_word (edit.Uncontroller id terminal) known none = some_none none
 has_word _ known none = true≢false (sym known)
 
-pub edit_done : (s : State) (e : Edit) (w : EditWord) → is_row_edit e ≡ true → word_of e ≡ Some w → (next : State) → next ≡ edited s e → edit_due s e ≡ None
-    → (areas : List ℕ) (id version : ℕ) (mark : List Rectangle) → areas ≡ areas_of_edit s e → id ≡ id_of s e → version ≡ s.version + 1 → mark ≡ stain s.features e
+pub edit_done : (s : State) (e : Edit) (w : EditWord) → is_of_features e ≡ true → word_of e ≡ Some w → (next : State) → next ≡ edited s e → edit_due s e ≡ None
+    → (areas : List ℕ) (id version : ℕ) (mark : List Rectangle) → areas ≡ areas_of_edit s e → id ≡ id_of s e → version ≡ s.version + 1 → mark ≡ dirtied s.features e
     → inl (next, (reply.Edited areas id w version, mark)) ≡ step s (command.Edit e)
 edit_done s e w known word next next_is due areas id version mark areas_are id_is version_is mark_is =
     let replied : reply.Edited areas id w version ≡ edit_reply s e =
@@ -76,14 +82,14 @@ edit_done s e w known word next next_is due areas id version mark areas_are id_i
     ∙ ap (λ o. option_map_or (λ w. reply.Edited (areas_of_edit s e) (id_of s e) w (s.version + 1)) o (reply.Ruled (areas_of_edit s e) (length s.features.rules + 1) (s.version + 1))) (sym word) in
     (λ i. inl (next_is i, (replied i, mark_is i))) ∙ sym (step_done s (command.Edit e) known due)
 
-pub edit_refused : (s : State) (e : Edit) → is_row_edit e ≡ true → (r : Refusal) → edit_due s e ≡ Some r → inr (refused s r) ≡ step s (command.Edit e)
+pub edit_refused : (s : State) (e : Edit) → is_of_features e ≡ true → (r : Refusal) → edit_due s e ≡ Some r → inr (refused s r) ≡ step s (command.Edit e)
 edit_refused s e known r due = sym (step_refused s (command.Edit e) r known due)
 
 -- ---- batches
 
 pub batch_done : (s : State) (es : List Edit) → is_known (command.Batch es) ≡ true → (next : State) → next ≡ batched s es → batch_due s es ≡ None
     → (areas ids : List ℕ) (version : ℕ) (mark : List Rectangle)
-    → areas ≡ first_and_count s.next_area (length (stain_of_batch s es)) → ids ≡ ids_of_all s es → version ≡ s.version + 1 → mark ≡ stain_of_batch s es
+    → areas ≡ first_and_count s.next_area (length (dirtied_by_batch s es)) → ids ≡ ids_of_all s es → version ≡ s.version + 1 → mark ≡ dirtied_by_batch s es
     → inl (next, (reply.Batch areas ids version, mark)) ≡ step s (command.Batch es)
 batch_done s es known next next_is due areas ids version mark areas_are ids_are version_is mark_is =
     (λ i. inl (next_is i, (reply.Batch (areas_are i) (ids_are i) (version_is i), mark_is i))) ∙ sym (step_done s (command.Batch es) known due)

@@ -19,7 +19,7 @@ use Rattle.un_defs.proofs.Rising.{Among}
 use Rattle.un_defs.proofs.Unique.{point_same}
 use Rattle.std.specs.Prelude.{not, is_some}
 use Rattle.std.specs.Option.{option_copied}
-use Rattle.un_store.specs.Refusals.{first_due, due_if}
+use Rattle.un_defs.specs.Dues.{first_due, due_if}
 use Rattle.un_index.specs.Kept.{stars_of}
 use Rattle.un_ask.specs.declared.typed.TypedAsk.{TypedAsk}
 use Rattle.un_ask.specs.declared.reply.Reply.{Reply}

@@ -1,5 +1,5 @@
 -- What might happen to a state leaves a state.
-use Rattle.std.proofs.Common.{◌≡◌, ◌≢◌, ℕ, zero, suc, ◌+◌, ◌<◌, Bool, true, false, not, List, [], ◌∷◌, ◌++◌, length, get_or, refl, sym, ◌∙◌, subst, All, IsFalse, inl, inr, arith}
+use Rattle.std.proofs.Common.{◌≡◌, ◌≢◌, ℕ, ◌+◌, ◌<◌, Bool, true, false, not, List, [], ◌∷◌, ◌++◌, refl, sym, ◌∙◌, subst, All, IsFalse}
 use Rattle.std.specs.List.{list_any, enumerate_from}
 use Rattle.std.proofs.lemmas.List.Folds.{list_any-append}
 use Rattle.std.proofs.lemmas.List.Elements.{All-filter}
@@ -11,12 +11,11 @@ use Rattle.un_defs.specs.declared.edit.Edit.{Edit}
 use Rattle.un_defs.specs.Star.{star, empty_star}
 use Rattle.un_defs.specs.Change.{Next, changed, after}
 use Rattle.un_defs.specs.Features.{Features}
-use Rattle.un_defs.specs.Stain.{stain}
+use Rattle.un_defs.specs.Dirtied.{dirtied}
 use Rattle.un_defs.specs.Laws.{AreNew, MayBeMade}
-use Rattle.un_defs.proofs.Rising.{Among}
 use Rattle.un_defs.proofs.Unique.{from_all}
 use Rattle.un_defs.proofs.Locality.{locality, or_both}
-use Rattle.un_defs.proofs.KeepsSound.{keeps_sound}
+use Rattle.un_defs.proofs.KeepsSound.{keeps_sound, all_from}
 use Rattle.un_index.specs.Kept.{stars_of}
 use Rattle.un_core.specs.State.{State, fresh_star}
 use Rattle.un_core.specs.Validation.{met, unmet, is_under, rebuilt}
@@ -26,20 +25,12 @@ use Rattle.un_core.specs.Validation.{validated}
 use Rattle.un_core.specs.Cover.{IsState, MayAllBeMade, MayHappen, CoverLaw}
 use Rattle.un_core.proofs.NextIds.{new_after}
 use Rattle.un_core.proofs.LookUps.{sorted_map}
-use Rattle.un_core.proofs.Settled.{settled_state}
+use Rattle.un_facts.proofs.Settled.{settled_sound, settled_star, settled_new}
 use Rattle.un_core.proofs.Rebuilding.{rebuilt_under, rebuilt_elsewhere, rebuilt_sorted, rebuilt_told}
 use Rattle.un_core.proofs.Numbers.{numbered_more, under_more, any_enumerated, any_split}
 
-among_at : {A : Type 0} (xs : List A) (k : ℕ) (d : A) → k < length xs → Among xs (get_or xs k d)
-among_at [] k d l = absurd (omega arith)
-among_at (x ∷ xs) zero d l = inl refl
-among_at (x ∷ xs) (suc k) d l = inr (among_at xs k d (omega (arith, l)))
-
-pub all_from : {A : Type 0} (P : A → Type 0) (xs : List A) → ((x : A) → Among xs x → P x) → All P xs
-all_from P xs h k d l = h (get_or xs k d) (among_at xs k d l)
-
 -- ids are new at every moment
-same_ids : (next other : Next) (F : Features) → next.feature ≡ other.feature → next.association ≡ other.association → AreNew next F → AreNew other F
+pub same_ids : (next other : Next) (F : Features) → next.feature ≡ other.feature → next.association ≡ other.association → AreNew next F → AreNew other F
 same_ids next other F e g new = record { feature = subst (λ n. All (λ r. r.id < n) F.rows) e new.feature; association = subst (λ n. All (λ a. a.id < n) F.associations) g new.association }
 
 -- neither is any of the rest told by the version
@@ -64,20 +55,20 @@ module _ (s : State) (is : IsState s) where
     new : AreNew (next_with s moment) s.features
     new = same_ids (next_of s) (next_with s moment) s.features refl refl is.fresh_ids
 
-    made_cover : (p : Point) → IsFalse (list_any (λ area. covers area.1 p) (s.areas ++ enumerate_from s.next_area (stain s.features e)))
+    made_cover : (p : Point) → IsFalse (list_any (λ area. covers area.1 p) (s.areas ++ enumerate_from s.next_area (dirtied s.features e)))
         → stars_of s.kept p ≡ star s.setup.schema next_features p
     made_cover p h =
-        let both = or_both (list_any (λ area. covers area.1 p) s.areas) (list_any (λ area. covers area.1 p) (enumerate_from s.next_area (stain s.features e)))
-        (sym (list_any-append (λ area. covers area.1 p) s.areas (enumerate_from s.next_area (stain s.features e))) ∙ h) in
+        let both = or_both (list_any (λ area. covers area.1 p) s.areas) (list_any (λ area. covers area.1 p) (enumerate_from s.next_area (dirtied s.features e)))
+        (sym (list_any-append (λ area. covers area.1 p) s.areas (enumerate_from s.next_area (dirtied s.features e))) ∙ h) in
         is.cover p both.0
-        ∙ sym (locality (setting s) (next_with s moment) s.features e is.sound new may p (sym (any_enumerated (λ r. covers r p) s.next_area (stain s.features e)) ∙ both.1))
+        ∙ sym (locality (setting s) (next_with s moment) s.features e is.sound new may p (sym (any_enumerated (λ r. covers r p) s.next_area (dirtied s.features e)) ∙ both.1))
 
     pub made_state : IsState (made_at moment s e)
     made_state = record {
       sound = keeps_sound (setting s) (next_with s moment) s.features e is.sound new may;
       fresh_ids = same_ids (after (next_with s moment) e) (next_of (made_at moment s e)) next_features refl refl (new_after (setting s) (next_with s moment) s.features e new);
-      numbered = numbered_more s.areas (stain s.features e) s.next_area is.numbered is.numbers;
-      numbers = under_more s.areas (stain s.features e) s.next_area is.numbers;
+      numbered = numbered_more s.areas (dirtied s.features e) s.next_area is.numbered is.numbers;
+      numbers = under_more s.areas (dirtied s.features e) s.next_area is.numbers;
       sorted = is.sorted;
       told = is.told;
       cover = made_cover;
@@ -116,6 +107,18 @@ module _ (s : State) (is : IsState s) where
 pub made_all_state : (s : State) (es : List Edit) → IsState s → MayAllBeMade s es → IsState (made_by_all s es)
 made_all_state s [] is may = is
 made_all_state s (e ∷ es) is may = made_all_state (made_at 0 s e) es (made_state s is 0 e may.0) may.1
+
+-- whichever rows have another moment, a state stays one
+settled_state : (s : State) (moment : ℕ) (ids : List ℕ) → IsState s → IsState (record s { features = settled_at moment ids s.features })
+settled_state s moment ids is = record {
+  sound = settled_sound s.setup.schema s.features moment ids is.sound;
+  fresh_ids = settled_new s.setup.schema s.features moment ids _ is.fresh_ids;
+  numbered = is.numbered;
+  numbers = is.numbers;
+  sorted = is.sorted;
+  told = is.told;
+  cover = λ p clean. is.cover p clean ∙ settled_star s.setup.schema s.features moment ids is.sound p;
+}
 
 pub batched_state : (s : State) (es : List Edit) → IsState s → MayHappen s (command.Batch es) → IsState (batched s es)
 batched_state s es is may =

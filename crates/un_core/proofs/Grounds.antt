@@ -6,7 +6,7 @@ use Rattle.un_geom.specs.declared.point.Point.{Point}
 use Rattle.un_geom.specs.Places.{same_point}
 use Rattle.un_schema.specs.Catalog.{Catalog}
 use Rattle.un_ask.specs.declared.request.Command.{Command}
-use Rattle.un_core.specs.declared.setup.Setup.{Setup}
+use Rattle.un_facts.specs.declared.setup.Setup.{Setup}
 use Rattle.un_defs.specs.declared.port.Node.{Node}
 use Rattle.un_defs.specs.declared.star.Spot.{Spot}
 use Rattle.un_defs.specs.declared.walk.Mode.{Mode}

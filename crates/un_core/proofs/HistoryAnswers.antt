@@ -9,7 +9,7 @@ use Rattle.un_ask.specs.declared.request.Command.TheVariants as command
 use Rattle.un_ask.specs.declared.query.Asked.{Asked}
 use Rattle.un_ask.specs.declared.query.Asked.TheVariants.{Version, Dirty, Errors, Trace}
 use Rattle.un_ask.specs.declared.reply.Reply.TheVariants as reply
-use Rattle.un_core.specs.declared.setup.Setup.{Setup}
+use Rattle.un_facts.specs.declared.setup.Setup.{Setup}
 use Rattle.un_core.specs.State.{State}
 use Rattle.un_core.specs.Validation.{met, IsKept}
 use Rattle.un_core.specs.History.{after_all}

@@ -6,15 +6,15 @@ use Rattle.un_geom.specs.declared.point.Point.{Point}
 use Rattle.un_geom.specs.Rectangle.{Rectangle}
 use Rattle.un_geom.specs.Places.{covers, meets}
 use Rattle.un_defs.specs.declared.edit.Edit.{Edit}
-use Rattle.un_defs.specs.Stain.{stain}
+use Rattle.un_defs.specs.Dirtied.{dirtied}
 use Rattle.un_defs.proofs.ListLemmas.{filter-append}
 use Rattle.un_index.specs.Kept.{stars_of}
 use Rattle.un_ask.specs.declared.request.Command.{Command}
 use Rattle.un_ask.specs.declared.request.Command.TheVariants as command
-use Rattle.un_core.specs.declared.setup.Setup.{Setup}
+use Rattle.un_facts.specs.declared.setup.Setup.{Setup}
 use Rattle.un_core.specs.State.{State, fresh_star}
 use Rattle.un_core.specs.Validation.{met, unmet, is_under, rebuilt}
-use Rattle.un_core.specs.Step.{made_at, made_by_all, stain_of_batch}
+use Rattle.un_core.specs.Step.{made_at, made_by_all, dirtied_by_batch}
 use Rattle.un_core.specs.History.{after_all, made_by, clears, alive_under, dirty_after, kept_after, rebuilds}
 use Rattle.un_core.specs.Cover.{IsState, IsOfHistory, HistoryLaw}
 use Rattle.un_core.proofs.LookUps.{sorted_map}
@@ -86,14 +86,14 @@ enumerate_both first (x ∷ xs) ys =
     ap (λ l. (first, x) ∷ l) (enumerate_both (first + 1) xs ys ∙ ap (λ n. enumerate_from (first + 1) xs ++ enumerate_from n ys) (omega arith))
 
 -- a batch makes the areas of its edits, and keeps the topology
-pub made_areas : (s : State) (es : List Edit) → (made_by_all s es).areas ≡ s.areas ++ enumerate_from s.next_area (stain_of_batch s es)
+pub made_areas : (s : State) (es : List Edit) → (made_by_all s es).areas ≡ s.areas ++ enumerate_from s.next_area (dirtied_by_batch s es)
 made_areas s [] = sym (append-nil s.areas)
 made_areas s (e ∷ es) =
-    let first = enumerate_from s.next_area (stain s.features e) in
-    let rest = stain_of_batch (made_at 0 s e) es in
+    let first = enumerate_from s.next_area (dirtied s.features e) in
+    let rest = dirtied_by_batch (made_at 0 s e) es in
     made_areas (made_at 0 s e) es
-    ∙ append_assoc s.areas first (enumerate_from (s.next_area + length (stain s.features e)) rest)
-    ∙ ap (λ l. s.areas ++ l) (sym (enumerate_both s.next_area (stain s.features e) rest))
+    ∙ append_assoc s.areas first (enumerate_from (s.next_area + length (dirtied s.features e)) rest)
+    ∙ ap (λ l. s.areas ++ l) (sym (enumerate_both s.next_area (dirtied s.features e) rest))
 
 pub made_kept : (s : State) (es : List Edit) → (made_by_all s es).kept ≡ s.kept
 made_kept s [] = refl

@@ -5,8 +5,8 @@ pub mod NextIds
 pub mod LookUps
 pub mod Rebuilding
 pub mod Numbers
-pub mod Settled
 pub mod CoverKept
+pub mod Making
 pub mod Opening
 pub mod HistoryKept
 pub mod Spreading
@@ -15,16 +15,13 @@ pub mod Telling
 pub mod Replaced
 pub mod Grounds
 pub mod Listed
-pub mod Edited
 pub mod Batching
 pub mod Pointed
 pub mod Rebuilt
 pub mod Applying
-pub mod Alone
 pub mod Accepted
 pub mod Clearing
 pub mod HistoryAnswers
-pub mod Attributes
 pub mod Named
 pub mod Exact
 pub mod Logs

@@ -5,9 +5,9 @@ use Rattle.un_defs.specs.declared.refusal.Refusal.{Refusal}
 use Rattle.un_machine.specs.Logs.{Leads}
 use Rattle.un_ask.specs.declared.request.Command.{Command}
 use Rattle.un_ask.specs.declared.reply.Reply.{Reply}
-use Rattle.un_core.specs.declared.setup.Setup.{Setup}
+use Rattle.un_facts.specs.declared.setup.Setup.{Setup}
 use Rattle.un_core.specs.State.{State}
-use Rattle.un_core.specs.Step.{next_state, stain_of}
+use Rattle.un_core.specs.Step.{next_state, dirtied_by}
 use Rattle.un_core.specs.Accepted.{IsAfter}
 use Rattle.un_core.specs.Commands.{first_refusal, refusal_reply, accepted, step}
 use Rattle.un_core.specs.Logs.{LogEntry, with_log, LogLaw}
@@ -22,7 +22,7 @@ done s c t told is = go (first_refusal s c) refl is
         → by s c d ≡ inl (t, told)
         → (first_refusal s c ≡ None) × (next_state s c ≡ t)
     go None none is =
-        (none, ap (λ (pair : State × (Reply × List Rectangle)). pair.0) (one_done (by s c None) (next_state s c, (accepted s c, stain_of s c)) (t, told) refl is))
+        (none, ap (λ (pair : State × (Reply × List Rectangle)). pair.0) (one_done (by s c None) (next_state s c, (accepted s c, dirtied_by s c)) (t, told) refl is))
     go (Some r) due is = absurd (not_both (by s c (Some r)) (t, told) (refusal_reply s c r) is refl)
 
 -- from the state after a history, a log leads to the one after that history with its commands

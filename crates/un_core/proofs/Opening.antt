@@ -2,7 +2,7 @@
 use Rattle.std.proofs.Common.{List, [], ◌∷◌, refl, arith}
 use Rattle.std.specs.List.Sorted.{IsStrictlySortedBy}
 use Rattle.un_ask.specs.declared.request.Command.{Command}
-use Rattle.un_core.specs.declared.setup.Setup.{Setup}
+use Rattle.un_facts.specs.declared.setup.Setup.{Setup}
 use Rattle.un_core.specs.State.{opening}
 use Rattle.un_core.specs.Validation.{by_point}
 use Rattle.un_core.specs.History.{after_all}

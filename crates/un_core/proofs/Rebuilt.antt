@@ -18,7 +18,7 @@ use Rattle.un_geom.specs.Rectangle.{Rectangle}
 use Rattle.un_core.specs.Validation.{by_point, met, rebuilt, ArePoints, AreRebuilt, IsKept}
 use Rattle.un_core.specs.Cover.{IsState}
 use Rattle.un_core.proofs.Replaced.{replaced}
-use Rattle.un_core.proofs.CoverKept.{all_from}
+use Rattle.un_defs.proofs.KeepsSound.{all_from}
 use Rattle.un_defs.proofs.Rising.{Among}
 
 -- before the first point
@@ -35,10 +35,6 @@ or_some false = refl
 
 nothing_before : (n : ℕ) → n ≡ 0 + n
 nothing_before n = omega arith
-
--- the star that was built is that of all features
-pub fresh_of : (s : State) (S : Catalog) (F : Features) (p : Point) (built : Star) → S ≡ s.setup.schema → F ≡ s.features → built ≡ star S F p → built ≡ fresh_star s p
-fresh_of s S F p built same_catalog same_features is = is ∙ (λ i. star (same_catalog i) (same_features i) p)
 
 module _ (s : State) (points : List Point) (p : Point) (kept more : List (Point × Star)) (star : Star) where
   pub rebuilt_more : AreRebuilt s points kept → star ≡ fresh_star s p

@@ -11,7 +11,7 @@ use Rattle.un_ask.specs.declared.reply.Reply.{Reply}
 use Rattle.un_ask.specs.declared.reply.Reply.TheVariants as reply
 use Rattle.un_ask.specs.Replies.{IsOfCommand, HasFewIds, HasFewEdits}
 use Rattle.un_core.specs.State.{State}
-use Rattle.un_core.specs.Step.{id_of, ids_of_all, made_at, next_state, stain_of}
+use Rattle.un_core.specs.Step.{id_of, ids_of_all, made_at, next_state, dirtied_by}
 use Rattle.un_core.specs.Commands.{Stepped, first_refusal, refusal_reply, accepted, step, word_of, areas_of_edit, edit_reply, command_reply, state_after, StepLaw}
 
 -- ---- what it gives
@@ -27,14 +27,14 @@ not_both x p r a b = cc
 
 module _ (s : State) (c : Command) where
   abbrev pub by : Option Refusal → Stepped
-  by d = option_map_or (λ r. inr (refusal_reply s c r)) d (inl (next_state s c, (accepted s c, stain_of s c)))
+  by d = option_map_or (λ r. inr (refusal_reply s c r)) d (inl (next_state s c, (accepted s c, dirtied_by s c)))
 
   pub when_done : (t : State) (r : Reply) (mark : List Rectangle) → step s c ≡ inl (t, (r, mark)) → (t ≡ state_after s c) × (r ≡ command_reply s c)
   when_done t r mark is = go (first_refusal s c) is
     where
       go : (d : Option Refusal) → by d ≡ inl (t, (r, mark)) → (t ≡ option_map_or (λ r. s) d (next_state s c)) × (r ≡ option_map_or (refusal_reply s c) d (accepted s c))
       go None is =
-          let same = one_done (by None) (next_state s c, (accepted s c, stain_of s c)) (t, (r, mark)) refl is in
+          let same = one_done (by None) (next_state s c, (accepted s c, dirtied_by s c)) (t, (r, mark)) refl is in
           (sym (ap (λ (p : State × (Reply × List Rectangle)). p.0) same), sym (ap (λ (p : State × (Reply × List Rectangle)). p.1.0) same))
       go (Some d) is = absurd (not_both (by (Some d)) (t, (r, mark)) (refusal_reply s c d) is refl)
 
@@ -42,7 +42,7 @@ module _ (s : State) (c : Command) where
   when_refused r is = go (first_refusal s c) is
     where
       go : (d : Option Refusal) → by d ≡ inr r → (s ≡ option_map_or (λ r. s) d (next_state s c)) × (r ≡ option_map_or (refusal_reply s c) d (accepted s c))
-      go None is = absurd (not_both (by None) (next_state s c, (accepted s c, stain_of s c)) r refl is)
+      go None is = absurd (not_both (by None) (next_state s c, (accepted s c, dirtied_by s c)) r refl is)
       go (Some d) is = (refl, sym (one_refused (by (Some d)) (refusal_reply s c d) r refl is))
 
 -- ---- its form

@@ -15,7 +15,7 @@ use Rattle.un_defs.proofs.Members.{among-map, among-filter, among_from-filter, a
 use Rattle.un_ask.specs.declared.typed.TypedAsk.{TypedAsk}
 use Rattle.un_trace.specs.Told.{told, told_over, mode_of}
 use Rattle.un_ask.specs.declared.request.Command.{Command}
-use Rattle.un_core.specs.declared.setup.Setup.{Setup}
+use Rattle.un_facts.specs.declared.setup.Setup.{Setup}
 use Rattle.un_core.specs.State.{State, kept_ground, fresh_ground_of}
 use Rattle.un_core.specs.History.{after_all}
 use Rattle.un_core.specs.Cover.{IsState, MayAllHappen}

@@ -2,7 +2,7 @@
 use Rattle.std.specs.Prelude.{◌≡◌, List, [], ◌++◌, length, None}
 use Rattle.un_schema.specs.Sound.{IsCatalog}
 use Rattle.un_ask.specs.declared.request.Command.{Command}
-use Rattle.un_core.specs.declared.setup.Setup.{Setup}
+use Rattle.un_facts.specs.declared.setup.Setup.{Setup}
 use Rattle.un_core.specs.State.{State, opening}
 use Rattle.un_core.specs.Step.{next_state}
 use Rattle.un_core.specs.History.{after_all}

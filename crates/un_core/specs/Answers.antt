@@ -12,8 +12,8 @@ use Rattle.un_defs.specs.declared.refusal.Refusal.{Refusal}
 use Rattle.un_defs.specs.declared.refusal.Refusal.TheVariants as refusal
 use Rattle.un_defs.specs.Features.{row}
 use Rattle.un_defs.specs.Star.{standing_points}
-use Rattle.un_grid.specs.Numbers.{port_node}
-use Rattle.un_store.specs.Refusals.{first_due, due_if}
+use Rattle.un_defs.specs.Ports.{port_node}
+use Rattle.un_defs.specs.Dues.{first_due, due_if}
 use Rattle.un_ask.specs.declared.trace.TraceKind.{TraceKind}
 use Rattle.un_ask.specs.declared.trace.TraceKind.TheVariants as kind
 use Rattle.un_ask.specs.declared.trace.TraceAsk.{TraceAsk}

@@ -10,8 +10,9 @@ use Rattle.un_defs.specs.declared.edit.Edit.{Edit}
 use Rattle.un_defs.specs.declared.edit.Edit.TheVariants as edit
 use Rattle.un_defs.specs.declared.refusal.Refusal.{Refusal}
 use Rattle.un_defs.specs.declared.refusal.Refusal.TheVariants as refusal
-use Rattle.un_defs.specs.Stain.{stain}
-use Rattle.un_store.specs.Refusals.{first_due, due_if}
+use Rattle.un_defs.specs.Dirtied.{dirtied}
+use Rattle.un_defs.specs.Dues.{first_due, due_if}
+use Rattle.un_facts.specs.Refusals.{is_of_features}
 use Rattle.un_ask.specs.declared.word.EditWord.{EditWord}
 use Rattle.un_ask.specs.declared.word.EditWord.TheVariants as word
 use Rattle.un_ask.specs.declared.request.Command.{Command}
@@ -20,17 +21,16 @@ use Rattle.un_ask.specs.declared.reply.Reply.{Reply}
 use Rattle.un_ask.specs.declared.reply.Reply.TheVariants as reply
 use Rattle.un_ask.specs.Replies.{IsOfCommand, HasFewIds, HasFewEdits}
 use Rattle.un_core.specs.State.{State}
-use Rattle.un_core.specs.Step.{id_of, ids_of_all, stain_of_batch, next_state, stain_of}
+use Rattle.un_core.specs.Step.{id_of, ids_of_all, dirtied_by_batch, next_state, dirtied_by}
 use Rattle.un_core.specs.Validation.{met, errors_under}
 use Rattle.un_core.specs.Refusals.{edit_due, batch_due, refused_place, numbers_due}
-use Rattle.un_core.specs.RowEdits.{is_row_edit}
 
 -- ---- which commands are taken
 
--- the commands that may be asked for yet: edits of rows, one by one or in a batch, and validations
+-- the commands that may be asked for yet: edits of rows, associations and controllers, one by one or in a batch, and validations
 abbrev pub is_known : Command → Bool
-is_known (command.Edit e) = is_row_edit e
-is_known (command.Batch es) = list_all is_row_edit es
+is_known (command.Edit e) = is_of_features e
+is_known (command.Batch es) = list_all is_of_features es
 is_known (command.Validate extent) = true
 is_known _ = false
 
@@ -75,7 +75,7 @@ word_of (edit.Rule rule) = None
 
 -- the areas that an edit makes
 abbrev pub areas_of_edit : State → Edit → List ℕ
-areas_of_edit s e = first_and_count s.next_area (length (stain s.features e))
+areas_of_edit s e = first_and_count s.next_area (length (dirtied s.features e))
 
 -- the reply to an edit that is accepted
 abbrev pub edit_reply : State → Edit → Reply
@@ -86,7 +86,7 @@ edit_reply s e = option_map_or (λ w. reply.Edited (areas_of_edit s e) (id_of s 
 abbrev pub accepted : State → Command → Reply
 accepted s (command.Edit e) = edit_reply s e
 accepted s (command.Batch es) =
-    reply.Batch (first_and_count s.next_area (length (stain_of_batch s es))) (ids_of_all s es) (s.version + 1)
+    reply.Batch (first_and_count s.next_area (length (dirtied_by_batch s es))) (ids_of_all s es) (s.version + 1)
 accepted s (command.Validate extent) =
     reply.Validated (length (met extent s.areas)) (errors_under s (met extent s.areas)) (s.version + 1)
 accepted s (command.Rule rule) = reply.Ruled (0 ∷ 0 ∷ []) (length s.features.rules) (s.version + 1)
@@ -109,7 +109,7 @@ Stepped = (State × (Reply × List Rectangle)) ⊎ Reply
 
 abbrev pub step : State → Command → Stepped
 step s c =
-    option_map_or (λ r. inr (refusal_reply s c r)) (first_refusal s c) (inl (next_state s c, (accepted s c, stain_of s c)))
+    option_map_or (λ r. inr (refusal_reply s c r)) (first_refusal s c) (inl (next_state s c, (accepted s c, dirtied_by s c)))
 
 -- the reply to a command
 abbrev pub command_reply : State → Command → Reply

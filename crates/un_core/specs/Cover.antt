@@ -10,7 +10,7 @@ use Rattle.un_defs.specs.Laws.{IsCovered, AreNew, MayBeMade}
 use Rattle.un_index.specs.Kept.{stars_of}
 use Rattle.un_ask.specs.declared.request.Command.{Command}
 use Rattle.un_ask.specs.declared.request.Command.TheVariants as command
-use Rattle.un_core.specs.declared.setup.Setup.{Setup}
+use Rattle.un_facts.specs.declared.setup.Setup.{Setup}
 use Rattle.un_core.specs.State.{State, kept_ground}
 use Rattle.un_core.specs.Validation.{by_point}
 use Rattle.un_core.specs.Step.{setting, next_with, next_of, made_at, next_state}

@@ -1,5 +1,5 @@
 -- A feature as a query tells it: as it stands, with names in place of the numbers of the schema.
-use Rattle.std.specs.Prelude.{ℕ, ◌<◌, ℤ, List, [], length, filter_map, slice_get, All, IfSome, Option, option_and_then}
+use Rattle.std.specs.Prelude.{ℕ, ℤ, List, [], filter_map, slice_get, Option, option_and_then}
 use Rattle.std.specs.declared.cmp.Ordering.{Ordering}
 use Rattle.std.specs.Ordering.{nat_cmp}
 use Rattle.std.specs.Cmp.Lexicographic.{slice_cmp}
@@ -42,17 +42,3 @@ feature_told S r = record {
   path = path_name S r;
   points = r.shape;
 }
-
--- each attribute of a list has a name
-abbrev pub HasAttributes : Catalog → List (ℕ × ℤ) → Type 0
-HasAttributes S attrs = All (λ pair. pair.0 < length S.attributes) attrs
-
--- the same of each row
-abbrev pub HaveAttributes : Catalog → List Row → Type 0
-HaveAttributes S rows = All (λ r. HasAttributes S r.attrs) rows
-
--- the schema has what a row names by number
-pub record HasNames (S : Catalog) (r : Row) : Type 0 where
-  pub kind : r.kind < length S.kinds
-  pub path : IfSome r.path (λ path. path < length (path_names S r.kind))
-  pub attributes : HasAttributes S r.attrs

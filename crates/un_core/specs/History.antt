@@ -9,9 +9,9 @@ use Rattle.un_defs.specs.declared.star.Star.{Star}
 use Rattle.un_defs.specs.Star.{empty_star, standing_points}
 use Rattle.un_defs.specs.Ground.{Ground}
 use Rattle.un_ask.specs.declared.request.Command.{Command}
-use Rattle.un_core.specs.declared.setup.Setup.{Setup}
+use Rattle.un_facts.specs.declared.setup.Setup.{Setup}
 use Rattle.un_core.specs.State.{State, opening, fresh_star}
-use Rattle.un_core.specs.Step.{next_state, stain_of, extent_of}
+use Rattle.un_core.specs.Step.{next_state, dirtied_by, extent_of}
 
 -- the state after a history
 abbrev pub after_all : Setup → List Command → State
@@ -20,7 +20,7 @@ after_all S (c ∷ before) = next_state (after_all S before) c
 
 -- the areas that a command makes, with their numbers
 abbrev pub made_by : State → Command → List (ℕ × Rectangle)
-made_by s c = enumerate_from s.next_area (stain_of s c)
+made_by s c = enumerate_from s.next_area (dirtied_by s c)
 
 -- a validation clears each area that meets its extent
 abbrev pub clears : ℕ × Rectangle → Command → Bool

@@ -8,7 +8,7 @@ use Rattle.un_ask.specs.declared.request.Command.TheVariants.{Validate}
 use Rattle.un_ask.specs.declared.query.Query.{Query}
 use Rattle.un_ask.specs.declared.reply.Reply.{Reply}
 use Rattle.un_ask.specs.declared.reply.Reply.TheVariants as reply
-use Rattle.un_core.specs.declared.setup.Setup.{Setup}
+use Rattle.un_facts.specs.declared.setup.Setup.{Setup}
 use Rattle.un_core.specs.Validation.{met}
 use Rattle.un_core.specs.History.{after_all, dirty_after, history_ground, points_before}
 use Rattle.un_core.specs.Cover.{MayAllHappen}

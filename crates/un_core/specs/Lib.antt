@@ -3,10 +3,10 @@ pub mod Validation
 pub mod Step
 pub mod History
 pub mod Cover
+pub mod Making
 pub mod Walked
 pub mod Listed
 pub mod Held
-pub mod RowEdits
 pub mod Refusals
 pub mod Feature
 pub mod Named

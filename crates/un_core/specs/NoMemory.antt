@@ -20,10 +20,10 @@ use Rattle.un_defs.specs.declared.refusal.Refusal.TheVariants as refusal
 use Rattle.un_defs.specs.declared.refusal.Limit.TheVariants as limit
 use Rattle.un_defs.specs.Ground.{Ground}
 use Rattle.un_defs.specs.Features.{Features, is_line, row}
-use Rattle.un_defs.specs.Stain.{stain}
+use Rattle.un_defs.specs.Dirtied.{dirtied}
 use Rattle.un_defs.specs.Reach.{dirt}
-use Rattle.un_store.specs.Keyed.{row_with}
-use Rattle.un_store.specs.Refusals.{first_due, due_if, refusal_of, no_kind, of_kind, no_row, of_row, no_line, no_path, no_room, not_plain, is_both, is_device, same_class, other_class, bad_shape, bad_attribute, most_rows}
+use Rattle.un_defs.specs.Dues.{first_due, due_if}
+use Rattle.un_facts.proofs.NoMemory.{IsOther, AreOther, first_other, due_where, none_other, edit_other}
 use Rattle.un_ask.specs.declared.request.Command.{Command}
 use Rattle.un_ask.specs.declared.request.Command.TheVariants as command
 use Rattle.un_ask.specs.declared.word.EditWord.{EditWord}
@@ -35,8 +35,8 @@ use Rattle.un_ask.specs.declared.trace.TraceAsk.{TraceAsk}
 use Rattle.un_ask.specs.declared.reply.Reply.{Reply}
 use Rattle.un_ask.specs.declared.reply.Reply.TheVariants as reply
 use Rattle.un_trace.specs.Told.{told, told_over, tells_controllers, controllers_reply, result_reply}
-use Rattle.un_core.specs.State.{State}
-use Rattle.un_core.specs.Refusals.{numbers_due, has_associations, has_controllers, standing_due, too_many, beside_numbers, first_refused, most_areas, last_number}
+use Rattle.un_core.specs.State.{State, known}
+use Rattle.un_core.specs.Refusals.{numbers_due, too_many, beside_numbers, first_refused, most_areas, last_number}
 use Rattle.un_core.specs.Step.{made_at, id_of}
 use Rattle.un_core.specs.Commands.{is_known, unknown, known_due, first_refusal, refusal_reply, accepted, word_of, areas_of_edit, edit_reply, command_reply}
 use Rattle.un_core.specs.Answers.{Basis, answer_on, asked_on, traced_on, survey_for, reached_from, at_version, query_due, untaken, untaken_member, starts_due, no_feature, no_start, start_node, start_nodes, connected_from, feature_reply, refused, is_connected, bad_if, too_early}
@@ -47,132 +47,6 @@ abbrev pub IsNoMemory : Reply → Type 0
 IsNoMemory (reply.Refused r edit version) = r ≢ refusal.Memory
 IsNoMemory other = ⊤
 
--- a refusal that may be due is none of want of memory
-IsOther : Option Refusal → Type 0
-IsOther d = IfSome d (λ r. r ≢ refusal.Memory)
-
-AreOther : List (Option Refusal) → Type 0
-AreOther [] = ⊤
-AreOther (d ∷ ds) = IsOther d × AreOther ds
-
-first_other : (ds : List (Option Refusal)) → AreOther ds → IsOther (first_due ds)
-unfolding IsOther AreOther
-first_other [] others = tt
-first_other (None ∷ ds) others = first_other ds others.1
-first_other (Some r ∷ ds) others = others.0
-
-due_where : (b : Bool) (r : Refusal) → r ≢ refusal.Memory → IsOther (due_if b r)
-unfolding IsOther
-due_where true r other = other
-due_where false r other = tt
-
--- ---- edits
-
-kind_other : (S : Catalog) (name : List ℕ) → IsOther (no_kind S name)
-unfolding IsOther
-kind_other S name = go (kind_named S name)
-  where
-    go : (o : Option ℕ) → IsOther (option_map_or (λ k. None) o (Some (refusal.NoSuchKind name)))
-    go None = λ e. cc
-    go (Some k) = tt
-
-of_kind_other : (S : Catalog) (name : List ℕ) (due : Kind → Option Refusal) → ((k : Kind) → IsOther (due k)) → IsOther (of_kind S name due)
-unfolding IsOther
-of_kind_other S name due other = go (kind_named S name)
-  where
-    at : (o : Option Kind) → IsOther (option_and_then due o)
-    at None = tt
-    at (Some k) = other k
-
-    go : (o : Option ℕ) → IsOther (option_and_then (λ k. option_and_then due (kind_at S k)) o)
-    go None = tt
-    go (Some k) = at (kind_at S k)
-
-mapped_other : {A : Type 0} (f : A → Refusal) (o : Option A) → ((a : A) → f a ≢ refusal.Memory) → IsOther (option_map f o)
-unfolding IsOther
-mapped_other f None other = tt
-mapped_other f (Some a) other = other a
-
-row_other : (rows : List Row) (id base : ℕ) → IsOther (no_row rows id base)
-unfolding IsOther
-row_other rows id base = go (row_with rows id)
-  where
-    go : (o : Option Row) → IsOther (option_map_or (λ r. due_if (not (r.moment == base)) (refusal.Moved r.moment)) o (Some (refusal.NoSuchFeature id)))
-    go None = λ e. cc
-    go (Some r) = due_where (not (r.moment == base)) (refusal.Moved r.moment) (λ e. cc)
-
-of_row_other : (rows : List Row) (id : ℕ) (due : Row → Option Refusal) → ((r : Row) → IsOther (due r)) → IsOther (of_row rows id due)
-unfolding IsOther
-of_row_other rows id due other = go (row_with rows id)
-  where
-    go : (o : Option Row) → IsOther (option_and_then due o)
-    go None = tt
-    go (Some r) = other r
-
-shape_other : (class : Class) (points : List (List ℤ)) → IsOther (bad_shape class points)
-shape_other class points = mapped_other _ _ (λ place e. cc)
-
-attribute_other : (S : Catalog) (attrs : List (List ℕ × ℤ)) → IsOther (bad_attribute S attrs)
-attribute_other S attrs = mapped_other _ _ (λ pair e. cc)
-
-line_other : (r : Row) → IsOther (no_line r)
-line_other r = due_where (not (is_line r.class)) refusal.WrongKind (λ e. cc)
-
-none_other : IsOther None
-unfolding IsOther
-none_other = tt
-
-row_edit_other : (S : Catalog) (rows : List Row) (e : Edit) → IsOther (refusal_of S rows e)
-unfolding AreOther
-row_edit_other S rows (edit.Insert kind points attrs flow ends note) = first_other
-    (no_kind S kind ∷ of_kind S kind (λ k. not_plain k.class flow ends) ∷ of_kind S kind (λ k. bad_shape k.class points) ∷ bad_attribute S attrs ∷ no_room rows ∷ []) (
-      kind_other S kind,
-      (
-        of_kind_other S kind (λ k. not_plain k.class flow ends)
-            (λ k. due_where (not (is_line k.class) && not (is_both flow && list_all (λ terminal. terminal == 0) ends)) refusal.WrongKind (λ e. cc)),
-        (
-          of_kind_other S kind (λ k. bad_shape k.class points) (λ k. shape_other k.class points),
-          (
-            attribute_other S attrs,
-            (due_where (not (nat_lt (length rows) most_rows)) (refusal.Full limit.Features) (λ e. cc), tt),
-          ),
-        ),
-      ),
-    )
-row_edit_other S rows (edit.Reshape id base points) = first_other (no_row rows id base ∷ of_row rows id (λ r. bad_shape r.class points) ∷ [])
-    (row_other rows id base, (of_row_other rows id (λ r. bad_shape r.class points) (λ r. shape_other r.class points), tt))
-row_edit_other S rows (edit.Attrs id base attrs) = first_other (no_row rows id base ∷ bad_attribute S attrs ∷ [])
-    (row_other rows id base, (attribute_other S attrs, tt))
-row_edit_other S rows (edit.Kind id base kind) = first_other
-    (no_row rows id base ∷ no_kind S kind ∷ of_kind S kind (λ k. of_row rows id (other_class k)) ∷ []) (
-      row_other rows id base,
-      (
-        kind_other S kind,
-        (
-          of_kind_other S kind (λ k. of_row rows id (other_class k))
-              (λ k. of_row_other rows id (other_class k) (λ r. due_where (not (same_class k.class r.class)) refusal.WrongKind (λ e. cc))),
-          tt,
-        ),
-      ),
-    )
-row_edit_other S rows (edit.Path id base path) = first_other (no_row rows id base ∷ of_row rows id (no_path S path) ∷ []) (
-  row_other rows id base,
-  (of_row_other rows id (no_path S path) (λ r. due_where (not (is_device r.class && is_some (path_named S r.kind path))) refusal.BadPath (λ e. cc)), tt),
-)
-row_edit_other S rows (edit.Flow id base flow) = first_other (no_row rows id base ∷ of_row rows id no_line ∷ [])
-    (row_other rows id base, (of_row_other rows id no_line line_other, tt))
-row_edit_other S rows (edit.Ends id base ends) = first_other (no_row rows id base ∷ of_row rows id no_line ∷ [])
-    (row_other rows id base, (of_row_other rows id no_line line_other, tt))
-row_edit_other S rows (edit.Note id base note) = row_other rows id base
-row_edit_other S rows (edit.Delete id base) = row_other rows id base
-row_edit_other S rows (edit.Connect from to) = none_other
-row_edit_other S rows (edit.Contain container content) = none_other
-row_edit_other S rows (edit.Attach structure content) = none_other
-row_edit_other S rows (edit.Detach assoc) = none_other
-row_edit_other S rows (edit.Controller id terminal tier subnet) = none_other
-row_edit_other S rows (edit.Uncontroller id terminal) = none_other
-row_edit_other S rows (edit.Rule rule) = none_other
-
 -- ---- commands
 
 numbers_other : (s : State) → IsOther (numbers_due s)
@@ -180,26 +54,13 @@ numbers_other s = due_where
     (nat_le last_number s.version || nat_le last_number s.next_feature || nat_le last_number s.next_association || nat_le last_number s.next_area)
     (refusal.Full limit.Numbers) (λ e. cc)
 
-associations_other : (F : Features) (id : ℕ) → IsOther (has_associations F id)
-associations_other F id = mapped_other _ _ (λ a e. cc)
-
-controllers_other : (F : Features) (id : ℕ) → IsOther (has_controllers F id)
-controllers_other F id = due_where (list_any (λ c. c.port.feature == id) F.controllers) refusal.HasControllers (λ e. cc)
-
-standing_other : (F : Features) (e : Edit) → IsOther (standing_due F e)
-unfolding AreOther
-standing_other F (edit.Kind id base kind) = controllers_other F id
-standing_other F (edit.Delete id base) = first_other (has_associations F id ∷ has_controllers F id ∷ [])
-    (associations_other F id, (controllers_other F id, tt))
-standing_other F _ = none_other
-
 areas_other : (areas : List (ℕ × Rectangle)) (rectangles : List Rectangle) → IsOther (too_many areas rectangles)
 areas_other areas [] = none_other
 areas_other areas (r ∷ rs) = due_where (nat_lt most_areas (length areas + length (r ∷ rs))) (refusal.Full limit.Areas) (λ e. cc)
 
 beside_are_other : (s : State) (e : Edit) → AreOther (beside_numbers s e)
 unfolding AreOther
-beside_are_other s e = (row_edit_other s.setup.schema s.features.rows e, (standing_other s.features e, (areas_other s.areas (stain s.features e), tt)))
+beside_are_other s e = (edit_other (known s) e, (areas_other s.areas (dirtied s.features e), tt))
 
 beside_other : (s : State) (e : Edit) → IsOther (first_due (beside_numbers s e))
 beside_other s e = first_other (beside_numbers s e) (beside_are_other s e)

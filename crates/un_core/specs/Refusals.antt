@@ -1,19 +1,17 @@
 -- What is looked at before a command is done, in order, and the refusal that is due.
-use Rattle.std.specs.Prelude.{ℕ, ◌+◌, nat_lt, nat_le, ◌==◌, ◌||◌, List, [], ◌∷◌, length, slice_get, Option, Some, None}
-use Rattle.std.specs.List.{list_any}
+use Rattle.std.specs.Prelude.{ℕ, ◌+◌, nat_lt, nat_le, ◌||◌, List, [], ◌∷◌, length, Option, Some, None}
 use Rattle.std.specs.Option.{option_map, option_map_or}
 use Rattle.un_geom.specs.Rectangle.{Rectangle}
 use Rattle.un_defs.specs.declared.edit.Edit.{Edit}
-use Rattle.un_defs.specs.declared.edit.Edit.TheVariants as edit
 use Rattle.un_defs.specs.declared.refusal.Refusal.{Refusal}
 use Rattle.un_defs.specs.declared.refusal.Refusal.TheVariants as refusal
 use Rattle.un_defs.specs.declared.refusal.Limit.TheVariants as limit
-use Rattle.un_defs.specs.Features.{Features, associations_of}
-use Rattle.un_defs.specs.Stain.{stain}
+use Rattle.un_defs.specs.Dirtied.{dirtied}
 use Rattle.un_ask.specs.declared.reply.Reply.{Reply}
 use Rattle.un_ask.specs.declared.reply.Reply.TheVariants.{Refused}
-use Rattle.un_store.specs.Refusals.{first_due, due_if, refusal_of}
-use Rattle.un_core.specs.State.{State}
+use Rattle.un_defs.specs.Dues.{first_due, due_if}
+use Rattle.un_facts.specs.Refusals.{refusal_of}
+use Rattle.un_core.specs.State.{State, known}
 use Rattle.un_core.specs.Step.{made_at}
 
 -- a version or a number from here on is none
@@ -35,29 +33,14 @@ abbrev pub too_many : List (ℕ × Rectangle) → List Rectangle → Option Refu
 too_many areas [] = None
 too_many areas (r ∷ rs) = due_if (nat_lt most_areas (length areas + length (r ∷ rs))) (refusal.Full limit.Areas)
 
--- the row is an end of an association, of which the least id is told
-abbrev pub has_associations : Features → ℕ → Option Refusal
-has_associations F id = option_map (λ a. refusal.HasAssociations a.id) (slice_get (associations_of F id) 0)
-
--- a controller sits on the row
-abbrev pub has_controllers : Features → ℕ → Option Refusal
-has_controllers F id = due_if (list_any (λ c. c.port.feature == id) F.controllers) refusal.HasControllers
-
--- what stands on a row keeps it from becoming of another kind, and from going
-abbrev pub standing_due : Features → Edit → Option Refusal
-standing_due F (edit.Kind id base kind) = has_controllers F id
-standing_due F (edit.Delete id base) = first_due (has_associations F id ∷ has_controllers F id ∷ [])
-standing_due F _ = None
-
 -- what may be due of an edit, in order, beside the numbers, which are looked at once for a command
 abbrev pub beside_numbers : State → Edit → List (Option Refusal)
 beside_numbers s e =
-    refusal_of s.setup.schema s.features.rows e
-    ∷ standing_due s.features e
-    ∷ too_many s.areas (stain s.features e)
+    refusal_of (known s) e
+    ∷ too_many s.areas (dirtied s.features e)
     ∷ []
 
--- the first refusal of an edit of a row
+-- the first refusal of an edit
 abbrev pub edit_due : State → Edit → Option Refusal
 edit_due s e = first_due (numbers_due s ∷ beside_numbers s e)
 

@@ -8,7 +8,9 @@ use Rattle.un_defs.specs.Features.{Features}
 use Rattle.un_defs.specs.Ground.{Ground, fresh_ground}
 use Rattle.un_index.specs.Kept.{stars_of}
 use Rattle.un_ask.specs.declared.stored.StoredSubnet.{StoredSubnet}
-use Rattle.un_core.specs.declared.setup.Setup.{Setup}
+use Rattle.un_facts.specs.declared.setup.Setup.{Setup}
+use Rattle.un_facts.specs.declared.ids.NextIds.{NextIds}
+use Rattle.un_facts.specs.Known.{Known}
 
 -- The schema and the tiers, which stay; the features, with the rules in force; the kept topology, as the points that have a star, sorted;
 -- the dirty areas with their numbers; the stored subnetworks; how many commands were accepted; and the next numbers.
@@ -22,6 +24,13 @@ pub record State : Type 0 where
   pub next_feature : ℕ
   pub next_association : ℕ
   pub next_area : ℕ
+
+-- what is known apart from the topology, and the ids that are given next
+abbrev pub known : State → Known
+known s = record { setup = s.setup; features = s.features }
+
+abbrev pub next_ids : State → NextIds
+next_ids s = record { feature = s.next_feature; association = s.next_association }
 
 -- the star of all features at a point
 abbrev pub fresh_star : State → Point → Star

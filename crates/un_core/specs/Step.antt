@@ -1,21 +1,23 @@
 -- What an accepted command does to the state.
-use Rattle.std.specs.Prelude.{ℕ, ◌+◌, List, [], ◌∷◌, ◌++◌, length, map, Option, None, Some}
+use Rattle.std.specs.Prelude.{ℕ, ◌+◌, List, [], ◌∷◌, ◌++◌, length, Option, None, Some, option_to_list}
 use Rattle.std.specs.List.{enumerate_from}
 use Rattle.un_geom.specs.Rectangle.{Rectangle}
 use Rattle.un_defs.specs.declared.edit.Edit.{Edit}
 use Rattle.un_defs.specs.declared.edit.Edit.TheVariants as edit
 use Rattle.un_defs.specs.Features.{Features}
 use Rattle.un_defs.specs.Change.{Setting, Next, changed, after}
-use Rattle.un_defs.specs.Stain.{stain}
+use Rattle.un_defs.specs.Dirtied.{dirtied}
 use Rattle.un_ask.specs.declared.request.Command.{Command}
 use Rattle.un_ask.specs.declared.request.Command.TheVariants as command
 use Rattle.un_store.specs.Edits.{settled}
-use Rattle.un_core.specs.State.{State}
+use Rattle.un_facts.specs.declared.ids.NextIds.{NextIds}
+use Rattle.un_facts.specs.Known.{setting as names}
+use Rattle.un_core.specs.State.{State, next_ids}
 use Rattle.un_core.specs.Validation.{validated}
 
 -- the names that edits look up: those of the schema, and those of the tiers
 abbrev pub setting : State → Setting
-setting s = record { catalog = s.setup.schema; tiers = map (λ t. t.name) s.setup.tiers }
+setting s = names s.setup
 
 -- what the next edit gives, which is made at a moment
 abbrev pub next_with : State → ℕ → Next
@@ -28,10 +30,10 @@ next_of s = next_with s (s.version + 1)
 abbrev pub made_at : ℕ → State → Edit → State
 made_at moment s e = record s {
   features = changed (setting s) (next_with s moment) s.features e;
-  areas = s.areas ++ enumerate_from s.next_area (stain s.features e);
+  areas = s.areas ++ enumerate_from s.next_area (dirtied s.features e);
   next_feature = (after (next_with s moment) e).feature;
   next_association = (after (next_with s moment) e).association;
-  next_area = s.next_area + length (stain s.features e);
+  next_area = s.next_area + length (dirtied s.features e);
 }
 
 -- the state after an edit, whose version is one more
@@ -46,31 +48,37 @@ made_by_all s [] = s
 made_by_all s (e ∷ es) = made_by_all (made_at 0 s e) es
 
 -- the id that the reply to an edit tells: that of the feature that it makes or changes, or of the association
+abbrev pub told_id : NextIds → Edit → ℕ
+told_id ids (edit.Insert kind points attrs flow ends note) = ids.feature
+told_id ids (edit.Reshape id base points) = id
+told_id ids (edit.Attrs id base attrs) = id
+told_id ids (edit.Kind id base kind) = id
+told_id ids (edit.Path id base path) = id
+told_id ids (edit.Flow id base flow) = id
+told_id ids (edit.Ends id base ends) = id
+told_id ids (edit.Note id base note) = id
+told_id ids (edit.Delete id base) = id
+told_id ids (edit.Detach assoc) = assoc
+told_id ids (edit.Controller id terminal tier subnet) = id
+told_id ids (edit.Uncontroller id terminal) = id
+told_id ids _ = ids.association
+
 abbrev pub id_of : State → Edit → ℕ
-id_of s (edit.Insert kind points attrs flow ends note) = s.next_feature
-id_of s (edit.Reshape id base points) = id
-id_of s (edit.Attrs id base attrs) = id
-id_of s (edit.Kind id base kind) = id
-id_of s (edit.Path id base path) = id
-id_of s (edit.Flow id base flow) = id
-id_of s (edit.Ends id base ends) = id
-id_of s (edit.Note id base note) = id
-id_of s (edit.Delete id base) = id
-id_of s (edit.Detach assoc) = assoc
-id_of s (edit.Controller id terminal tier subnet) = id
-id_of s (edit.Uncontroller id terminal) = id
-id_of s _ = s.next_association
+id_of s e = told_id (next_ids s) e
 
 -- the row that an edit makes or changes; an association, a controller and a rule change none
+abbrev pub touched_row : NextIds → Edit → Option ℕ
+touched_row ids (edit.Connect from to) = None
+touched_row ids (edit.Contain container content) = None
+touched_row ids (edit.Attach structure content) = None
+touched_row ids (edit.Detach assoc) = None
+touched_row ids (edit.Controller id terminal tier subnet) = None
+touched_row ids (edit.Uncontroller id terminal) = None
+touched_row ids (edit.Rule rule) = None
+touched_row ids e = Some (told_id ids e)
+
 abbrev pub touched : State → Edit → List ℕ
-touched s (edit.Connect from to) = []
-touched s (edit.Contain container content) = []
-touched s (edit.Attach structure content) = []
-touched s (edit.Detach assoc) = []
-touched s (edit.Controller id terminal tier subnet) = []
-touched s (edit.Uncontroller id terminal) = []
-touched s (edit.Rule rule) = []
-touched s e = id_of s e ∷ []
+touched s e = option_to_list (touched_row (next_ids s) e)
 
 abbrev pub ids_of_all : State → List Edit → List ℕ
 ids_of_all s [] = []
@@ -81,9 +89,9 @@ touched_by_all s [] = []
 touched_by_all s (e ∷ es) = touched s e ++ touched_by_all (made_at 0 s e) es
 
 -- the rectangles that the edits make, in order
-abbrev pub stain_of_batch : State → List Edit → List Rectangle
-stain_of_batch s [] = []
-stain_of_batch s (e ∷ es) = stain s.features e ++ stain_of_batch (made_at 0 s e) es
+abbrev pub dirtied_by_batch : State → List Edit → List Rectangle
+dirtied_by_batch s [] = []
+dirtied_by_batch s (e ∷ es) = dirtied s.features e ++ dirtied_by_batch (made_at 0 s e) es
 
 -- the features once the rows with these ids have the moment
 abbrev pub settled_at : ℕ → List ℕ → Features → Features
@@ -107,10 +115,10 @@ next_state s (command.Validate extent) = validated s extent
 next_state s _ = record s { version = s.version + 1 }
 
 -- the rectangles that it makes dirty, in order
-abbrev pub stain_of : State → Command → List Rectangle
-stain_of s (command.Edit e) = stain s.features e
-stain_of s (command.Batch es) = stain_of_batch s es
-stain_of s _ = []
+abbrev pub dirtied_by : State → Command → List Rectangle
+dirtied_by s (command.Edit e) = dirtied s.features e
+dirtied_by s (command.Batch es) = dirtied_by_batch s es
+dirtied_by s _ = []
 
 -- the extent that it validates, if it is a validation
 abbrev pub extent_of : Command → Option Rectangle

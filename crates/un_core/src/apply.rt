@@ -6,12 +6,12 @@ ghost use Rattle.un_schema.specs.declared.place.Place.TheVariants as place;
 ghost use Rattle.un_defs.specs.declared.refusal.Refusal.TheVariants as refusal;
 ghost use Rattle.un_ask.specs.declared.request.Command.TheVariants as command;
 ghost use Rattle.un_ask.specs.declared.reply.Reply.TheVariants as reply;
-ghost use Rattle.un_core.specs.RowEdits.{is_row_edit};
+ghost use Rattle.un_facts.specs.Refusals.{is_of_features};
 ghost use Rattle.un_core.specs.Commands.{is_known, word_of, first_and_count, step};
 ghost use Rattle.un_machine.specs.Logs.{answer_of};
 
 use crate::batch::{BatchFault, Batched};
-use crate::edit::{Edited, feature_of};
+use crate::edit::{Edited, told_id};
 use crate::net::Net;
 use crate::validate::Validated;
 use std::alloc::{AllocError, Global};
@@ -65,29 +65,18 @@ fn word_of(edit: &Edit) -> Option<EditWord>
     }
 }
 
-// Whether the edit is one of a row.
-fn is_row_edit(edit: &Edit) -> bool
-    ensures { result ≡ is_row_edit edit.now }
+// Whether the edit is one of a row, an association or a controller.
+fn is_of_features(edit: &Edit) -> bool
+    ensures { result ≡ is_of_features edit.now }
 {
-    matches!(
-        edit,
-        Edit::Insert { .. }
-            | Edit::Reshape { .. }
-            | Edit::Attrs { .. }
-            | Edit::Kind { .. }
-            | Edit::Path { .. }
-            | Edit::Flow { .. }
-            | Edit::Ends { .. }
-            | Edit::Note { .. }
-            | Edit::Delete { .. }
-    )
+    !matches!(edit, Edit::Rule { .. })
 }
 
-// Whether each of the edits is one of a row.
-fn are_row_edits(edits: &[Edit]) -> bool
-    ensures { result ≡ list_all is_row_edit edits.now }
+// The same of each of the edits.
+fn are_of_features(edits: &[Edit]) -> bool
+    ensures { result ≡ list_all is_of_features edits.now }
 {
-    edits.iter().all(|edit| is_row_edit(edit))
+    edits.iter().all(|edit| is_of_features(edit))
 }
 
 // Whether the command is one that may be asked for yet.
@@ -95,8 +84,8 @@ fn is_known(command: &Command) -> bool
     ensures { result ≡ is_known command.now }
 {
     match command {
-        Command::Edit(edit) => is_row_edit(edit),
-        Command::Batch(edits) => are_row_edits(edits.as_slice()),
+        Command::Edit(edit) => is_of_features(edit),
+        Command::Batch(edits) => are_of_features(edits.as_slice()),
         Command::Validate { .. } => true,
         Command::Rule { .. } | Command::Update { .. } => false,
     }
@@ -112,9 +101,9 @@ impl Net {
         first_and_count(first, later.dirty.next_number() - first)
     }
 
-    // An edit of a row.
+    // An edit of a row, an association or a controller.
     fn apply_edit(&self, alloc: Global, edit: &Edit) -> Result<Applied<Net>, AllocError>
-        requires known { is_row_edit edit.now ≡ true }
+        requires known { is_of_features edit.now ≡ true }
         ensures { IfOk result (λ a. answer_of a ≡ step self.now (command.Edit edit.now)) }
     {
         let Some(word) = word_of(edit) else {
@@ -124,7 +113,7 @@ impl Net {
             Ok(Edited { net, dirtied }) => {
                 let reply = Reply::Edited {
                     areas: self.areas_made(&net),
-                    id: feature_of(edit, self.next_feature),
+                    id: told_id(edit, self.ids),
                     word,
                     version: net.version,
                 };
@@ -139,14 +128,18 @@ impl Net {
         }
     }
 
-    // A batch of edits of rows.
+    // A batch of such edits.
     fn apply_batch(&self, alloc: Global, edits: &[Edit]) -> Result<Applied<Net>, AllocError>
-        requires known { list_all is_row_edit edits.now ≡ true }
+        requires known { list_all is_of_features edits.now ≡ true }
         requires few { length edits.now ≤ 256 }
         ensures { IfOk result (λ a. answer_of a ≡ step self.now (command.Batch edits.now)) }
     {
         match self.batch(alloc, edits) {
-            Ok(Batched { net, ids, dirtied }) => {
+            Ok(
+                Batched {
+                    net, ids, dirtied, ..
+                },
+            ) => {
                 let reply = Reply::Batch {
                     areas: self.areas_made(&net),
                     ids: Ids::new(ids),

@@ -1,7 +1,8 @@
 //! A feature as a query tells it.
 ghost use Rattle.std.specs.Prelude.{◌≡◌, ◌<◌, length, map, Some, IfOk, IfSome};
 ghost use Rattle.un_schema.specs.Catalog.{path_names};
-ghost use Rattle.un_core.specs.Feature.{with_name, named, path_name, feature_told, HasAttributes, HasNames};
+ghost use Rattle.un_core.specs.Feature.{with_name, named, path_name, feature_told};
+ghost use Rattle.un_facts.specs.Attributes.{HasAttributes, HasNames};
 ghost use Rattle.un_core.specs.Named.{pair_of};
 ghost use Rattle.un_core.specs.Answers.{feature_reply};
 
@@ -9,7 +10,7 @@ use crate::net::Net;
 use std::alloc::{AllocError, Global};
 use std::collections::BTreeSet;
 use un_ask::{FeatureReply, Points, Reply};
-use un_defs::{NamedAttrs, Refusal, Row};
+use un_defs::{NamedAttrs, Refusal, Row, Rows};
 use un_schema::{Name, Schema};
 
 /// An attribute with its name, by which it compares.
@@ -121,12 +122,12 @@ impl Net {
         ensures { IfOk result (λ reply. reply ≡ feature_reply self.now id) }
     {
         // For the proof alone.
-        let _rules = self.setup.schema.rules();
-        let Some(row) = self.rows.row(id) else {
+        let _rules = self.facts.setup().schema.rules();
+        let Some(row) = self.facts.row(id) else {
             return Ok(self.refused(Refusal::NoSuchFeature { id }));
         };
         Ok(Reply::Feature {
-            feature: feature_told(alloc, &self.setup.schema, row)?,
+            feature: feature_told(alloc, &self.facts.setup().schema, row)?,
             version: self.version,
         })
     }

@@ -9,12 +9,10 @@ mod feature;
 pub mod histories;
 mod kept;
 pub mod laws;
-mod live;
 pub mod net;
 mod points;
-pub mod setup;
 mod starts;
 mod validate;
 
 pub use net::Net;
-pub use setup::Setup;
+pub use un_facts::Setup;

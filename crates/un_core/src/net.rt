@@ -4,16 +4,13 @@ ghost use Rattle.un_core.specs.State.{State, opening};
 ghost use Rattle.un_core.specs.Cover.{IsState};
 ghost use Rattle.un_core.specs.Refusals.{numbers_due};
 
-use crate::setup::Setup;
 use std::alloc::{AllocError, Global};
 use std::marker::Model;
-use std::sync::Arc;
 use un_defs::{Limit, Refusal};
 use un_dirty::Dirty;
-use un_grid::Grid;
+use un_facts::{Facts, NextIds};
 use un_index::Index;
 use un_schema::Schema;
-use un_store::Store;
 use un_tiers::Tiers;
 
 /// From here on a version, an id or an area's number is none.
@@ -22,35 +19,27 @@ const LAST_NUMBER: u64 = 9_000_000_000_000_000;
 /// The state of a network. It never changes: a command that is accepted gives a new one, which shares with it what stays.
 #[derive(Drop)]
 pub struct Net {
-    pub(crate) setup: Arc<Setup>,
-    pub(crate) rows: Store,
-    pub(crate) grid: Grid,
+    pub(crate) facts: Facts,
     pub(crate) kept: Index,
     pub(crate) dirty: Dirty,
     pub(crate) version: u64,
-    pub(crate) next_feature: u64,
+    pub(crate) ids: NextIds,
 }
 
 impl Model for Net {
-    ghost use Rattle.std.specs.Arc.{arc_value};
+    ghost use Rattle.std.specs.Coded.{codes};
+    ghost use Rattle.un_facts.specs.contracts.setup.Setup as setup_row;
     ghost use Rattle.un_core.specs.State.{State};
-    ghost use Rattle.un_core.specs.Held.{held, features_in};
+    ghost use Rattle.un_core.specs.Held.{held};
     ghost use Rattle.un_core.specs.Cover.{IsState};
-    ghost use Rattle.un_core.specs.Feature.{HaveAttributes};
-    ghost use Rattle.un_grid.specs.Grids.{IsGridOf};
 
     ghost Value = { State };
 
-    ghost use Rattle.std.specs.Coded.{codes};
-    ghost use Rattle.un_core.specs.contracts.setup.Setup as setup_row;
-
     ghost coded = { Prim.hlevel (codes, setup_row.the_row.coded) };
 
-    ghost view = { λ n. held (arc_value n.setup) n.rows n.kept n.dirty n.version n.next_feature };
+    ghost view = { λ n. held n.facts n.kept n.dirty n.version n.ids };
 
-    ghost invariant = { λ n. IsState (held (arc_value n.setup) n.rows n.kept n.dirty n.version n.next_feature)
-        × IsGridOf n.grid (features_in (arc_value n.setup).schema n.rows)
-        × HaveAttributes (arc_value n.setup).schema n.rows };
+    ghost invariant = { λ n. IsState (held n.facts n.kept n.dirty n.version n.ids) };
 }
 
 impl Net {
@@ -59,13 +48,14 @@ impl Net {
         ensures { IfOk result (λ net. net ≡ opening (record { schema = schema; tiers = tiers })) }
     {
         Ok(Net {
-            setup: Arc::new(alloc, Setup { schema, tiers })?,
-            rows: Store::new(alloc),
-            grid: Grid::new(alloc),
+            facts: Facts::open(alloc, schema, tiers)?,
             kept: Index::new(alloc),
             dirty: Dirty::new(alloc),
             version: 0,
-            next_feature: 1,
+            ids: NextIds {
+                feature: 1,
+                association: 1,
+            },
         })
     }
 
@@ -83,10 +73,12 @@ impl Net {
         ensures bad { IfErr result (λ refusal. numbers_due self.now ≡ Some refusal) }
         ensures version { OnOk result (self.now.version < 9_000_000_000_000_000) }
         ensures feature { OnOk result (self.now.next_feature < 9_000_000_000_000_000) }
+        ensures association { OnOk result (self.now.next_association < 9_000_000_000_000_000) }
         ensures area { OnOk result (self.now.next_area < 9_000_000_000_000_000) }
     {
         if self.version >= LAST_NUMBER
-            || self.next_feature >= LAST_NUMBER
+            || self.ids.feature >= LAST_NUMBER
+            || self.ids.association >= LAST_NUMBER
             || self.dirty.next_number() >= LAST_NUMBER
         {
             return Err(Refusal::Full {

@@ -32,7 +32,7 @@ impl Net {
     {
         let mut set = BTreeSet::new(alloc);
         for (_, area) in areas {
-            add_all(&mut set, &self.grid.points(alloc, *area)?)?;
+            add_all(&mut set, &self.facts.points(alloc, *area)?)?;
             add_all(&mut set, &self.kept.points(alloc, *area)?)?;
         }
         let all: Vec<Point> = set.into_iter().collect(alloc)?;

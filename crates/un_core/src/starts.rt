@@ -1,19 +1,18 @@
 //! The nodes at which a trace starts.
 ghost use Rattle.std.specs.Prelude.{◌≡◌, map, Some, None, IfOk, OnOk, IfErr};
-ghost use Rattle.un_store.specs.Refusals.{first_due};
+ghost use Rattle.un_defs.specs.Dues.{first_due};
 ghost use Rattle.un_core.specs.Answers.{start_node, start_nodes, no_feature, no_start, starts_due};
 
 use crate::net::Net;
 use std::alloc::{AllocError, Global};
-use un_defs::{Node, Port, Refusal};
-use un_grid::port_node;
+use un_defs::{Node, Port, Refusal, Rows};
 
 impl Net {
     /// The node of a port of a live row.
     fn start_node(&self, start: Port) -> Option<Node>
         ensures { result ≡ start_node self.now start }
     {
-        port_node(self.rows.row(start.feature)?, start.number)
+        self.facts.row(start.feature)?.port_node(start.number)
     }
 
     /// Refuses the first start whose feature is not live.
@@ -22,7 +21,7 @@ impl Net {
         ensures bad { IfErr result (λ refusal. first_due (map (no_feature self.now) starts.now) ≡ Some refusal) }
     {
         for start in starts {
-            if self.rows.row(start.feature).is_none() {
+            if self.facts.row(start.feature).is_none() {
                 return Err(Refusal::NoSuchFeature { id: start.feature });
             }
         }

@@ -5,15 +5,14 @@ ghost use Rattle.un_defs.specs.declared.refusal.Refusal.TheVariants.{Memory};
 ghost use Rattle.std.specs.Arc.{arc_value};
 ghost use Rattle.un_defs.specs.Star.{star};
 ghost use Rattle.un_core.specs.State.{fresh_star};
-ghost use Rattle.un_core.specs.Held.{features_in};
 ghost use Rattle.un_core.specs.Validation.{validated, met, errors_under, AreRebuilt, IsKept};
 ghost use Rattle.un_core.specs.Refusals.{numbers_due};
 
-use crate::live::Live;
 use crate::net::Net;
 use std::alloc::{AllocError, Global};
 use std::sync::Arc;
 use un_defs::{Refusal, Star};
+use un_facts::Facts;
 use un_geom::{Point, Rect};
 use un_index::Index;
 use un_star::build;
@@ -45,25 +44,13 @@ fn with_errors(errors: u64, star: &Star) -> Result<u64, Refusal>
 }
 
 // The star of the features at a point.
-fn star_at(alloc: Global, live: &Live, p: Point) -> Result<Arc<Star>, AllocError>
-    ensures { IfOk result (λ s. arc_value s ≡ star live.now.schema.now (features_in live.now.schema.now live.now.rows.now) p) }
+fn star_at(alloc: Global, facts: &Facts, p: Point) -> Result<Arc<Star>, AllocError>
+    ensures { IfOk result (λ s. arc_value s ≡ star facts.now.setup.schema facts.now.features p) }
 {
-    Ok(Arc::new(alloc, build(alloc, live, p)?)?)
+    Ok(Arc::new(alloc, build(alloc, &facts.live(), p)?)?)
 }
 
 impl Net {
-    /// The features as the stars are built of them.
-    pub(crate) fn live(&self) -> Live<'_>
-        ensures schema { result.schema.now ≡ self.now.setup.schema }
-        ensures features { features_in result.schema.now result.rows.now ≡ self.now.features }
-    {
-        Live {
-            schema: &self.setup.schema,
-            rows: &self.rows,
-            grid: &self.grid,
-        }
-    }
-
     // What is kept once these points have the stars of all features.
     fn rebuilt(&self, alloc: Global, points: &[Point]) -> Result<Rebuilt, Refusal>
         ensures stars { IfOk result (λ r. AreRebuilt self.now points.now r.kept) }
@@ -71,11 +58,10 @@ impl Net {
         ensures errors { IfOk result (λ r. r.errors ≡ sum_by (λ p. length (fresh_star self.now p).errors) points.now) }
         ensures memory { IfErr result (λ refusal. refusal ≡ Memory) }
     {
-        let live = self.live();
         let mut kept = self.kept.share()?;
         let mut errors = 0;
         for point in points {
-            let star = star_at(alloc, &live, *point)?;
+            let star = star_at(alloc, &self.facts, *point)?;
             errors = with_errors(errors, &star)?;
             kept.put(alloc, *point, star)?;
         }
@@ -100,13 +86,11 @@ impl Net {
         let rebuilt = self.rebuilt(alloc, &points)?;
         Ok(Validated {
             net: Net {
-                setup: self.setup.clone()?,
-                rows: self.rows.share()?,
-                grid: self.grid.share()?,
+                facts: self.facts.share()?,
                 kept: rebuilt.kept,
                 dirty: self.dirty.clear_meeting(alloc, extent)?,
                 version: self.version + 1,
-                next_feature: self.next_feature,
+                ids: self.ids,
             },
             cleared: areas.len() as u64,
             errors: rebuilt.errors,

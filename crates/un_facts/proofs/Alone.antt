@@ -17,10 +17,10 @@ use Rattle.un_defs.proofs.Rising.{Among}
 use Rattle.un_defs.proofs.Members.{among-filter}
 use Rattle.un_defs.proofs.Near.{false_unless}
 use Rattle.un_defs.proofs.ListLemmas.{none_passes}
-use Rattle.un_store.specs.Refusals.{due_if}
+use Rattle.un_defs.specs.Dues.{due_if}
+use Rattle.un_defs.proofs.KeepsSound.{all_from}
 use Rattle.un_store.proofs.Fitting.{none_due}
-use Rattle.un_core.specs.Refusals.{has_associations, has_controllers, standing_due}
-use Rattle.un_core.proofs.CoverKept.{all_from}
+use Rattle.un_facts.specs.Refusals.{has_associations, has_controllers, standing_due}
 
 module _ {A : Type 0} (cmp : A → A → Ordering) where
   -- a list to which an element was added has a first

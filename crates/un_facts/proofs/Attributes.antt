@@ -19,9 +19,9 @@ use Rattle.un_defs.proofs.Members.{among_cases, among_from-filter, among_from-ma
 use Rattle.un_defs.proofs.Unique.{from_all, from_find}
 use Rattle.un_defs.proofs.LinkCases.{below_length, some_same}
 use Rattle.un_defs.proofs.RowEdits.{touch}
-use Rattle.un_star.proofs.RowFacts.{fits, kind_lives}
-use Rattle.un_core.specs.Feature.{HasAttributes, HaveAttributes, HasNames}
-use Rattle.un_core.proofs.CoverKept.{all_from}
+use Rattle.un_defs.proofs.RowFacts.{fits, kind_lives}
+use Rattle.un_defs.proofs.KeepsSound.{all_from}
+use Rattle.un_facts.specs.Attributes.{HasAttributes, HaveAttributes, HasNames}
 
 -- ---- attributes that are numbered by their names
 

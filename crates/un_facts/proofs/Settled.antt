@@ -1,15 +1,18 @@
--- The notes and moments of the rows alone change nothing of what holds of a state.
-use Rattle.std.proofs.Common.{◌≡◌, ℕ, ◌<◌, ◌==◌, true, false, List, map, filter, Option, Some, None, IsSomeAnd, IsSome, IsTrue, refl, sym, ap, ◌∙◌, subst, if◌then◌else◌}
+-- The notes and moments of rows change nothing of what holds of features.
+use Rattle.std.proofs.Common.{◌≡◌, ℕ, ◌<◌, ◌==◌, true, false, List, [], ◌∷◌, ◌++◌, map, filter, flat_map, Option, Some, None, IsSomeAnd, IsSome, IsTrue, refl, sym, ap, ◌∙◌, subst, if◌then◌else◌}
 use Rattle.std.specs.List.{list_any}
 use Rattle.std.specs.Option.{option_map}
 use Rattle.std.proofs.lemmas.List.Elements.{All-map, All-weaker}
 use Rattle.un_geom.specs.declared.point.Point.{Point}
 use Rattle.un_schema.specs.Catalog.{Catalog}
+use Rattle.un_defs.specs.declared.port.Port.{Port}
 use Rattle.un_defs.specs.declared.row.Row.{Row}
 use Rattle.un_defs.specs.declared.assoc.Assoc.{Assoc}
 use Rattle.un_defs.specs.Features.{Features, row, is_joint}
 use Rattle.un_defs.specs.Change.{Next}
 use Rattle.un_defs.specs.Star.{star}
+use Rattle.un_defs.specs.Orders.{rising, port_cmp}
+use Rattle.un_defs.specs.Ports.{nodes_of}
 use Rattle.un_defs.specs.Sound.{IsSound, FitsKind, HasEnds, IsLive, IsLiveJoint}
 use Rattle.un_defs.specs.Laws.{AreNew}
 use Rattle.un_defs.proofs.ListLemmas.{find-map, find-agree, map-map}
@@ -18,10 +21,11 @@ use Rattle.un_defs.proofs.Near.{stands}
 use Rattle.un_defs.proofs.Touch.{same}
 use Rattle.un_defs.proofs.RowEdits.{LooksAlike, same_by_alike}
 use Rattle.un_defs.proofs.RowStars.{mapped_ids, star_by_rows}
-use Rattle.un_store.specs.Edits.{at_moment}
-use Rattle.un_core.specs.State.{State}
-use Rattle.un_core.specs.Step.{settled_at}
-use Rattle.un_core.specs.Cover.{IsState}
+use Rattle.un_store.specs.Edits.{at_moment, settled}
+use Rattle.un_grid.specs.Grids.{IsGridOf, standing}
+use Rattle.un_facts.specs.Known.{Known, settled_at}
+use Rattle.un_facts.specs.Attributes.{HasAttributes, HaveAttributes}
+use Rattle.un_facts.specs.Standing.{IsKnown}
 
 -- a row without its note and moment fits a kind as the row does
 bare_fits : (S : Catalog) (r : Row) → FitsKind S r → FitsKind S (plain r)
@@ -104,16 +108,42 @@ settle moment ids r = if list_any (λ id. id == r.id) ids then at_moment moment 
 settle_plainly : (moment : ℕ) (ids : List ℕ) (r : Row) → plain (settle moment ids r) ≡ plain r
 settle_plainly moment ids r = elim (list_any (λ id. id == r.id) ids) as (λ b. plain (if b then at_moment moment r else r) ≡ plain r) [ true ↦ refl | false ↦ refl ]
 
--- whichever rows have another moment, a state stays one
-pub settled_state : (s : State) (moment : ℕ) (ids : List ℕ) → IsState s → IsState (record s { features = settled_at moment ids s.features })
-settled_state s moment ids is =
-    let plainly = settle_plainly moment ids in
-    record {
-      sound = plainly_sound s.setup.schema s.features (settle moment ids) plainly is.sound;
-      fresh_ids = plainly_new s.setup.schema s.features (settle moment ids) plainly _ is.fresh_ids;
-      numbered = is.numbered;
-      numbers = is.numbers;
-      sorted = is.sorted;
-      told = is.told;
-      cover = λ p clean. is.cover p clean ∙ plainly_star s.setup.schema s.features (settle moment ids) plainly is.sound p;
-    }
+-- the features once the rows with these ids have the moment
+abbrev later : ℕ → List ℕ → Features → Features
+later moment ids F = record F { rows = settled ids moment F.rows }
+
+-- whichever rows have another moment, the features stay sound, and each star stays as it is
+pub settled_sound : (S : Catalog) (F : Features) (moment : ℕ) (ids : List ℕ) → IsSound S F → IsSound S (later moment ids F)
+settled_sound S F moment ids = plainly_sound S F (settle moment ids) (settle_plainly moment ids)
+
+pub settled_star : (S : Catalog) (F : Features) (moment : ℕ) (ids : List ℕ) → IsSound S F → (p : Point) → star S F p ≡ star S (later moment ids F) p
+settled_star S F moment ids = plainly_star S F (settle moment ids) (settle_plainly moment ids)
+
+pub settled_new : (S : Catalog) (F : Features) (moment : ℕ) (ids : List ℕ) (next : Next) → AreNew next F → AreNew next (later moment ids F)
+settled_new S F moment ids = plainly_new S F (settle moment ids) (settle_plainly moment ids)
+
+-- the ports stand where they stood
+settled_nodes : (moment : ℕ) (ids : List ℕ) (rows : List Row) → flat_map nodes_of rows ≡ flat_map nodes_of (settled ids moment rows)
+settled_nodes moment ids [] = refl
+settled_nodes moment ids (r ∷ rows) = λ i. one i ++ settled_nodes moment ids rows i
+  where
+    one : nodes_of r ≡ nodes_of (settle moment ids r)
+    one = elim (list_any (λ id. id == r.id) ids) as (λ b. nodes_of r ≡ nodes_of (if b then at_moment moment r else r)) [ true ↦ refl | false ↦ refl ]
+
+pub settled_grid : (grid : List (Point × List Port)) (F : Features) (moment : ℕ) (ids : List ℕ) → IsGridOf grid F → IsGridOf grid (later moment ids F)
+settled_grid grid F moment ids is p = is p ∙ ap (λ nodes. rising port_cmp (standing nodes p)) (settled_nodes moment ids F.rows)
+
+-- each attribute has its name
+pub settled_has : (S : Catalog) (rows : List Row) (moment : ℕ) (ids : List ℕ) → HaveAttributes S rows → HaveAttributes S (settled ids moment rows)
+settled_has S rows moment ids have = All-map (λ r. HasAttributes S r.attrs) (settle moment ids) rows
+    (All-weaker (λ r. HasAttributes S r.attrs) (λ r. HasAttributes S (settle moment ids r).attrs) one rows have)
+  where
+    one : (r : Row) → HasAttributes S r.attrs → HasAttributes S (settle moment ids r).attrs
+    one r has = elim (list_any (λ id. id == r.id) ids) as (λ b. HasAttributes S (if b then at_moment moment r else r).attrs) [ true ↦ has | false ↦ has ]
+
+pub settled_known : (K : Known) (ids : List ℕ) (moment : ℕ) → IsKnown K → IsKnown (settled_at K ids moment)
+settled_known K ids moment is = record {
+  sound = settled_sound K.setup.schema K.features moment ids is.sound;
+  attributes = settled_has K.setup.schema K.features.rows moment ids is.attributes;
+  rules = is.rules;
+}

@@ -1,15 +1,13 @@
 use Rattle.std.proofs.Common.{◌≡◌, ◌+◌, length, inr, sym, ap, ◌∙◌, rules, arith}
-use Rattle.un_defs.specs.Stain.{stain}
+use Rattle.un_defs.specs.Dirtied.{dirtied}
 use Rattle.un_core.specs.State.{State}
 use Rattle.un_core.specs.Commands.{refused}
-use Rattle.un_core.specs.RowEdits.{feature_of}
-use Rattle.un_core.proofs.Accepted.{row_edit}
+use Rattle.un_core.specs.Step.{id_of}
 use Rattle.un_core.proofs.Applying.{edit_done, edit_refused, areas_of}
-use Rattle.un_core.proofs.Batching.{id_is}
 use Rattle.un_core.proofs.net.Net.apply_edit.Goals as goal
 
 pub edit-requires : goal.edit-requires
-edit-requires c = record { word = row_edit c.args.edit.now c.requires.known }
+edit-requires c = record { word = c.requires.known }
 
 pub areas_made-requires : goal.areas_made-requires
 areas_made-requires c = omega (arith, ap (λ (t : State). t.next_area) c.in-Ok.ensures.state)
@@ -19,10 +17,10 @@ returns-in-Ok c =
     let s = c.args.self.now in
     let e = c.args.edit.now in
     let next = c.in-Ok.field-0.net in
-    let more : next.next_area ≡ s.next_area + length (stain s.features e) = ap (λ (t : State). t.next_area) c.in-Ok.ensures.state in
-    edit_done s e c.in-Some.word c.requires.known (sym c.word_of.ensures ∙ c.in-Some.is) next c.in-Ok.ensures.state c.in-Ok.ensures.good c.areas_made.result c.feature_of.result c.net.inside.version c.new.result
-    (areas_of s next (length (stain s.features e)) c.areas_made.result c.areas_made.ensures more)
-    (c.feature_of.ensures ∙ ap (λ (t : State). feature_of t.next_feature e) c.self.view_is ∙ sym (id_is s e (row_edit e c.requires.known)))
+    let more : next.next_area ≡ s.next_area + length (dirtied s.features e) = ap (λ (t : State). t.next_area) c.in-Ok.ensures.state in
+    edit_done s e c.in-Some.word c.requires.known (sym c.word_of.ensures ∙ c.in-Some.is) next c.in-Ok.ensures.state c.in-Ok.ensures.good c.areas_made.result c.told_id.result c.net.inside.version c.new.result
+    (areas_of s next (length (dirtied s.features e)) c.areas_made.result c.areas_made.ensures more)
+    (c.told_id.ensures ∙ ap (λ (t : State). id_of t e) c.self.view_is)
     (ap (λ (t : State). t.version) (c.net.view_is ∙ c.in-Ok.ensures.state))
     (c.new.ensures ∙ c.in-Ok.ensures.dirtied)
 

@@ -3,7 +3,7 @@ use Rattle.std.specs.Prelude.{not}
 use Rattle.un_defs.specs.declared.port.Port.{Port}
 use Rattle.un_defs.specs.declared.refusal.Refusal.TheVariants as refusal
 use Rattle.un_defs.specs.Features.{row}
-use Rattle.un_store.specs.Refusals.{due_if}
+use Rattle.un_defs.specs.Dues.{due_if}
 use Rattle.un_core.specs.State.{State}
 use Rattle.un_core.specs.Answers.{no_feature}
 use Rattle.un_core.proofs.Asked.{due_further, due_here, row_found}
@@ -17,7 +17,7 @@ loop-start-preserved c =
     let d : Port = record { feature = 0; number = 0 } in
     let q : Port = get_or starts k d in
     let found : is_some (row s.features q.feature) ≡ true =
-    row_found s q.feature c.self.inside.rows c.row.result true (ap (λ (t : State). t.features.rows) (sym c.self.view_is)) c.row.ensures (c.is_none.ensures ∙ ap not c.if-is_none.false) in
+    row_found s q.feature c.self.inside.facts.features.rows c.row.result true (ap (λ (t : State). t.features.rows) (sym c.self.view_is)) c.row.ensures (c.is_none.ensures ∙ ap not c.if-is_none.false) in
     c.loop-start.invariant ∙ due_further (no_feature s) starts k d c.loop-start-test.true (ap (λ b. due_if (not b) (refusal.NoSuchFeature q.feature)) found)
 
 pub returns-then-is_none-clause-bad : goal.returns-then-is_none-clause-bad
@@ -28,6 +28,6 @@ returns-then-is_none-clause-bad c =
     let d : Port = record { feature = 0; number = 0 } in
     let q : Port = get_or starts k d in
     let found : is_some (row s.features q.feature) ≡ false =
-    row_found s q.feature c.self.inside.rows c.row.result false (ap (λ (t : State). t.features.rows) (sym c.self.view_is)) c.row.ensures (c.is_none.ensures ∙ ap not c.if-is_none.true) in
+    row_found s q.feature c.self.inside.facts.features.rows c.row.result false (ap (λ (t : State). t.features.rows) (sym c.self.view_is)) c.row.ensures (c.is_none.ensures ∙ ap not c.if-is_none.true) in
     c.loop-start.invariant
     ∙ due_here (no_feature s) starts k d (refusal.NoSuchFeature q.feature) c.loop-start-test.true (ap (λ b. due_if (not b) (refusal.NoSuchFeature q.feature)) found)

@@ -1,5 +1,5 @@
 use Rattle.std.proofs.Common.{◌≡◌, drop, map}
-use Rattle.un_store.specs.Refusals.{first_due}
+use Rattle.un_defs.specs.Dues.{first_due}
 use Rattle.un_core.specs.Answers.{no_feature}
 use Rattle.un_core.proofs.net.Net.check_features.Given as goal
 

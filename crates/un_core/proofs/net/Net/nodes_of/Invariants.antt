@@ -1,5 +1,5 @@
 use Rattle.std.proofs.Common.{◌≡◌, take, drop, map}
-use Rattle.un_store.specs.Refusals.{first_due}
+use Rattle.un_defs.specs.Dues.{first_due}
 use Rattle.un_core.specs.Answers.{start_nodes, no_start}
 use Rattle.un_core.proofs.net.Net.nodes_of.Given as goal
 

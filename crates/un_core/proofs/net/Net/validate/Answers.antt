@@ -1,15 +1,10 @@
 use Rattle.std.proofs.Common.{arith, ◌≡◌, ◌+◌, sym, ap, ◌∙◌, subst, length}
-use Rattle.std.specs.Arc.{arc_value}
 use Rattle.std.specs.List.{sum_by}
-use Rattle.un_defs.specs.Ports.{ports}
 use Rattle.un_dirty.specs.Areas.{cleared}
-use Rattle.un_grid.specs.Grids.{ports_in}
-use Rattle.un_core.specs.declared.setup.Setup.{Setup}
 use Rattle.un_core.specs.State.{fresh_star}
 use Rattle.un_core.specs.Cover.{IsState}
 use Rattle.un_core.specs.Validation.{met, validated, errors_under, ArePoints, AreRebuilt}
-use Rattle.un_core.specs.Feature.{HaveAttributes}
-use Rattle.un_core.specs.Held.{held, features_in}
+use Rattle.un_core.specs.Held.{held}
 use Rattle.un_core.proofs.CoverKept.{validated_state}
 use Rattle.un_core.proofs.Rebuilt.{rebuilt_kept}
 use Rattle.un_core.proofs.Replaced.{errors_counted}
@@ -17,43 +12,37 @@ use Rattle.un_core.proofs.net.Net.validate.Goals as goal
 
 pub invariant_of-result : goal.invariant_of-result
 invariant_of-result c =
-    let S = arc_value c.self.inside.setup in
-    let rows = c.self.inside.rows in
+    let K = c.self.inside.facts in
     let dirty = c.self.inside.dirty in
     let v = c.self.inside.version in
-    let n = c.self.inside.next_feature in
-    let s = held S rows c.self.inside.kept dirty v n in
+    let ids = c.self.inside.ids in
+    let s = held K c.self.inside.kept dirty v ids in
     let points = c.in_ok-points.points.items in
     let kept = c.in_ok-rebuilt.rebuilt.kept in
     let areas : c.deref.result.now ≡ met c.args.extent dirty.areas = c.deref.ensures.value ∙ c.in_ok-areas.ensures in
     let are = subst (λ t. ArePoints t c.deref.result.now points) (sym c.self.view_is) c.in_ok-points.ensures.points in
     let stars = subst (λ t. AreRebuilt t points kept) (sym c.self.view_is)
     (subst (λ ps. AreRebuilt c.args.self.now ps kept) c.deref-2.ensures.value c.in_ok-rebuilt.ensures.stars) in
-    let is = rebuilt_kept s c.self.invariant.0 c.args.extent c.deref.result.now areas points are kept c.in_ok-rebuilt.ensures.kept stars in
-    let state : IsState (held S rows kept (cleared dirty c.args.extent) (v + 1) n) =
-    subst (λ k. IsState (held S rows k (cleared dirty c.args.extent) (v + 1) n)) (sym is) (validated_state s c.self.invariant.0 c.args.extent) in (
-      subst IsState (λ i. held (sym c.in_ok-clone.ensures.cases i) (sym c.in_ok-share.ensures i) kept (sym c.in_ok-clear_meeting.ensures i) (v + 1) n) state,
-      λ p. ap (λ g. ports_in g p) c.in_ok-share-2.ensures.same ∙ c.self.invariant.1 p
-          ∙ (λ i. ports (features_in (sym c.in_ok-clone.ensures.cases i).schema (sym c.in_ok-share.ensures i)) p),
-      subst (λ (C : Setup). HaveAttributes C.schema c.in_ok-share.field-0) (sym c.in_ok-clone.ensures.cases) (subst (HaveAttributes S.schema) (sym c.in_ok-share.ensures) c.self.invariant.2),
-    )
+    let is = rebuilt_kept s c.self.invariant c.args.extent c.deref.result.now areas points are kept c.in_ok-rebuilt.ensures.kept stars in
+    let state : IsState (held K kept (cleared dirty c.args.extent) (v + 1) ids) =
+    subst (λ k. IsState (held K k (cleared dirty c.args.extent) (v + 1) ids)) (sym is) (validated_state s c.self.invariant c.args.extent) in
+    subst IsState (λ i. held (sym c.in_ok-share.ensures i) kept (sym c.in_ok-clear_meeting.ensures i) (v + 1) ids) state
 
 pub returns-clause-state : goal.returns-clause-state
 returns-clause-state c =
-    let S = arc_value c.self.inside.setup in
-    let rows = c.self.inside.rows in
+    let K = c.self.inside.facts in
     let dirty = c.self.inside.dirty in
     let v = c.self.inside.version in
-    let n = c.self.inside.next_feature in
-    let s = held S rows c.self.inside.kept dirty v n in
+    let ids = c.self.inside.ids in
+    let s = held K c.self.inside.kept dirty v ids in
     let points = c.in_ok-points.points.items in
     let kept = c.in_ok-rebuilt.rebuilt.kept in
     let areas : c.deref.result.now ≡ met c.args.extent dirty.areas = c.deref.ensures.value ∙ c.in_ok-areas.ensures in
     let are = subst (λ t. ArePoints t c.deref.result.now points) (sym c.self.view_is) c.in_ok-points.ensures.points in
     let stars = subst (λ t. AreRebuilt t points kept) (sym c.self.view_is)
     (subst (λ ps. AreRebuilt c.args.self.now ps kept) c.deref-2.ensures.value c.in_ok-rebuilt.ensures.stars) in
-    let is = rebuilt_kept s c.self.invariant.0 c.args.extent c.deref.result.now areas points are kept c.in_ok-rebuilt.ensures.kept stars in
-    (λ i. held (c.in_ok-clone.ensures.cases i) (c.in_ok-share.ensures i) (is i) (c.in_ok-clear_meeting.ensures i) (v + 1) n)
+    let is = rebuilt_kept s c.self.invariant c.args.extent c.deref.result.now areas points are kept c.in_ok-rebuilt.ensures.kept stars in
+    (λ i. held (c.in_ok-share.ensures i) (is i) (c.in_ok-clear_meeting.ensures i) (v + 1) ids)
     ∙ ap (λ t. validated t c.args.extent) c.self.view_is
 
 pub returns-clause-errors : goal.returns-clause-errors
@@ -64,7 +53,7 @@ returns-clause-errors c =
     c.deref.ensures.value ∙ c.in_ok-areas.ensures ∙ ap (λ t. met c.args.extent t.areas) c.self.view_is in
     c.in_ok-rebuilt.ensures.errors
     ∙ ap (sum_by (λ p. length (fresh_star s p).errors)) c.deref-2.ensures.value
-    ∙ errors_counted s (subst IsState c.self.view_is c.self.invariant.0) c.deref.result.now points c.in_ok-points.ensures.points c.in_ok-points.ensures.sorted
+    ∙ errors_counted s (subst IsState c.self.view_is c.self.invariant) c.deref.result.now points c.in_ok-points.ensures.points c.in_ok-points.ensures.sorted
     ∙ ap (errors_under s) areas
 
 pub returns-clause-cleared : goal.returns-clause-cleared

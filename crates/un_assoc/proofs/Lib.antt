@@ -1,0 +1,12 @@
+pub mod Keyed
+pub mod ByNumber
+pub mod ByPort
+pub mod PairKeys
+pub mod Lists
+pub mod Ending
+pub mod Holding
+pub mod Chains
+pub mod ChainBound
+pub mod Making
+pub mod RowKinds
+pub mod Numbered

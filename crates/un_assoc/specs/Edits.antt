@@ -1,0 +1,31 @@
+-- The associations and controllers that an edit leaves.
+use Rattle.std.specs.Prelude.{◌≡◌, ◌≢◌, ℕ, List, [], map, Option, Some, None, IfOk, OnOk, IfErr, Result}
+use Rattle.un_schema.specs.Catalog.{Catalog}
+use Rattle.un_tiers.specs.declared.tier.Tier.{Tier}
+use Rattle.un_defs.specs.declared.edit.Edit.{Edit}
+use Rattle.un_defs.specs.declared.refusal.Refusal.{Refusal}
+use Rattle.un_defs.specs.declared.refusal.Refusal.TheVariants.{Memory}
+use Rattle.un_defs.specs.Features.{Features}
+use Rattle.un_defs.specs.Change.{Setting, Next, changed}
+use Rattle.un_assoc.specs.Links.{Links, links_of, only_links, with_links}
+use Rattle.un_assoc.specs.Refusals.{refusal_of}
+
+-- the names of the schema and of the tiers
+abbrev pub setting_of : Catalog → List Tier → Setting
+setting_of S tiers = record { catalog = S; tiers = map (λ t. t.name) tiers }
+
+-- the id that a new association gets; these edits give no other
+abbrev pub next_of : ℕ → Next
+next_of association = record { feature = 0; association = association; moment = 0 }
+
+-- the network whose associations and controllers were the first has the second once the edit is made
+abbrev pub IsMade : Setting → ℕ → Features → Links → Edit → Links → Type 0
+IsMade T next F before e after = with_links F after ≡ changed T (next_of next) (with_links F before) e
+
+-- nothing speaks against the edit
+abbrev pub IsGood : Setting → Features → Links → Edit → Type 0
+IsGood T F before e = refusal_of T (with_links F before) e ≡ None
+
+-- this is the refusal that is due, unless there was no memory
+abbrev pub IsDue : Setting → Features → Links → Edit → Refusal → Type 0
+IsDue T F before e refusal = refusal ≢ Memory → refusal_of T (with_links F before) e ≡ Some refusal

@@ -1,0 +1,26 @@
+-- The associations and the controllers of a network, and the network that has them.
+use Rattle.std.specs.Prelude.{List, []}
+use Rattle.un_defs.specs.declared.assoc.Assoc.{Assoc}
+use Rattle.un_defs.specs.declared.assoc.Controller.{Controller}
+use Rattle.un_defs.specs.Features.{Features}
+
+-- the live associations by rising id, and the controllers in the order of their ports
+pub record Links : Type 0 where
+  pub associations : List Assoc
+  pub controllers : List Controller
+
+-- the associations and controllers of a network
+abbrev pub links_of : Features → Links
+links_of F = record { associations = F.associations; controllers = F.controllers }
+
+-- the network with these associations and controllers in place of its own
+abbrev pub with_links : Features → Links → Features
+with_links F L = record F { associations = L.associations; controllers = L.controllers }
+
+-- a network that has only associations and controllers
+abbrev pub only_links : Links → Features
+only_links L = record { rows = []; associations = L.associations; controllers = L.controllers; rules = [] }
+
+-- none of either
+abbrev pub no_links : Links
+no_links = record { associations = []; controllers = [] }

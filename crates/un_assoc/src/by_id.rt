@@ -1,0 +1,76 @@
+// The associations by id.
+ghost use Rattle.std.specs.Prelude.{◌≡◌, ◌<◌, ◌==◌, not, ◌++◌, ◌∷◌, [], filter, find, length, All, IfOk};
+ghost use Rattle.std.specs.Option.{option_copied};
+ghost use Rattle.un_assoc.specs.Indexes.{IsRising};
+
+use std::alloc::{AllocError, Global};
+use std::marker::Model;
+use un_defs::Assoc;
+use un_pages::Paged;
+
+#[derive(Drop)]
+pub(crate) struct ById {
+    pairs: Paged<u64, Assoc>,
+}
+
+impl Model for ById {
+    ghost use Rattle.std.specs.Prelude.{List};
+    ghost use Rattle.std.specs.Map.{values_of};
+    ghost use Rattle.un_defs.specs.declared.assoc.Assoc.{Assoc};
+    ghost use Rattle.un_assoc.specs.Indexes.{AreKeyed};
+
+    ghost Value = { List Assoc };
+
+    ghost view = { λ m. values_of m.pairs };
+
+    ghost invariant = { λ m. AreKeyed (λ a. a.id) m.pairs };
+}
+
+impl ById {
+    pub(crate) fn new() -> ById
+        ensures { result ≡ [] }
+    {
+        ById {
+            pairs: Paged::new(),
+        }
+    }
+
+    pub(crate) fn share(&self) -> Result<ById, AllocError>
+        ensures { IfOk result (λ m. m ≡ self.now) }
+    {
+        let pairs = self.pairs.share()?;
+        Ok(ById { pairs })
+    }
+
+    pub(crate) fn len(&self) -> u64
+        ensures count { result ≡ length self.now }
+        ensures rising { IsRising self.now }
+    {
+        self.pairs.len()
+    }
+
+    pub(crate) fn get(&self, id: u64) -> Option<&Assoc>
+        ensures { option_copied result ≡ find (λ a. a.id == id) self.now }
+    {
+        self.pairs.get(&id)
+    }
+
+    // The map with one association more, whose id is over all others.
+    pub(crate) fn with(&self, alloc: Global, assoc: Assoc) -> Result<ById, AllocError>
+        requires { All (λ a. a.id < assoc.id) self.now }
+        ensures { IfOk result (λ m. m ≡ self.now ++ assoc ∷ []) }
+    {
+        let pairs = self.pairs.with(alloc, assoc.id, assoc)?;
+        Ok(ById { pairs })
+    }
+
+    // The map without the association of this id.
+    pub(crate) fn without(&self, alloc: Global, id: u64) -> Result<ById, AllocError>
+        ensures { IfOk result (λ m. m ≡ filter (λ a. not (a.id == id)) self.now) }
+    {
+        // For the proof alone.
+        let _len = self.pairs.len();
+        let pairs = self.pairs.without(alloc, &id)?;
+        Ok(ById { pairs })
+    }
+}

@@ -1,0 +1,135 @@
+-- What an edit leaves of a state, by the parts of a network.
+use Rattle.std.proofs.Common.{◌≡◌, ℕ, ◌+◌, ◌<◌, ◌≤◌, List, [], ◌∷◌, ◌++◌, length, Option, None, Some, refl, sym, ap, subst, ◌∙◌, arith}
+use Rattle.std.specs.Prelude.{nat_lt, false}
+use Rattle.std.specs.List.{enumerate_from}
+use Rattle.std.proofs.lemmas.Bool.Decides.{nat_tests}
+use Rattle.std.proofs.lemmas.List.{length-append}
+use Rattle.un_geom.specs.declared.point.Point.{Point}
+use Rattle.un_geom.specs.Rectangle.{Rectangle}
+use Rattle.un_defs.specs.declared.star.Star.{Star}
+use Rattle.un_defs.specs.declared.edit.Edit.{Edit}
+use Rattle.un_defs.specs.declared.edit.Edit.TheVariants as edit
+use Rattle.un_defs.specs.declared.refusal.Refusal.{Refusal}
+use Rattle.un_defs.specs.declared.refusal.Refusal.TheVariants as refusal
+use Rattle.un_defs.specs.declared.refusal.Limit.TheVariants as limit
+use Rattle.un_defs.specs.Dues.{first_due, due_if}
+use Rattle.un_defs.specs.Dirtied.{dirtied}
+use Rattle.un_defs.specs.Change.{Next, after}
+use Rattle.un_defs.specs.Laws.{AreNew, MayBeMade}
+use Rattle.un_dirty.specs.Areas.{DirtyList, added}
+use Rattle.un_facts.specs.declared.ids.NextIds.{NextIds}
+use Rattle.un_facts.specs.Known.{Known, setting as names, next_at, edited}
+use Rattle.un_facts.specs.Refusals.{refusal_of}
+use Rattle.un_core.specs.State.{State}
+use Rattle.un_core.specs.Step.{setting, next_with, next_of, made_at}
+use Rattle.un_core.specs.Cover.{IsState}
+use Rattle.un_core.specs.Held.{held}
+use Rattle.un_core.specs.Making.{AreasGrow, FeaturesGrow, AssociationsGrow}
+use Rattle.un_core.specs.Refusals.{numbers_due, most_areas, too_many, beside_numbers, edit_due}
+use Rattle.un_core.proofs.CoverKept.{made_state, same_ids}
+use Rattle.std.proofs.lemmas.List.FromFn.{length-enumerate_from}
+
+-- ---- the areas
+
+-- where there are few areas, no rectangles are not too many
+pub too_many_is : (areas : List (ℕ × Rectangle)) (rects : List Rectangle) → length areas ≤ most_areas
+    → too_many areas rects ≡ due_if (nat_lt most_areas (length areas + length rects)) (refusal.Full limit.Areas)
+too_many_is areas [] few = ap (λ b. due_if b (refusal.Full limit.Areas)) (sym room)
+  where
+    room : nat_lt most_areas (length areas + 0) ≡ false
+    room = grind (arith, nat_tests)
+too_many_is areas (r ∷ rs) few = refl
+
+-- ---- the ids
+
+-- the ids after an edit, whatever the moment
+after_moment : (ids : NextIds) (moment : ℕ) (e : Edit) → record (after (next_at ids 0) e) { moment = moment } ≡ after (next_at ids moment) e
+after_moment ids moment (edit.Insert kind points attrs flow ends note) = refl
+after_moment ids moment (edit.Connect from to) = refl
+after_moment ids moment (edit.Contain container content) = refl
+after_moment ids moment (edit.Attach structure content) = refl
+after_moment ids moment _ = refl
+
+feature_grows : (ids : NextIds) (e : Edit) → (after (next_at ids 0) e).feature ≤ ids.feature + 1
+feature_grows ids (edit.Insert kind points attrs flow ends note) = omega arith
+feature_grows ids _ = omega arith
+
+association_grows : (ids : NextIds) (e : Edit) → (after (next_at ids 0) e).association ≤ ids.association + 1
+association_grows ids (edit.Connect from to) = omega arith
+association_grows ids (edit.Contain container content) = omega arith
+association_grows ids (edit.Attach structure content) = omega arith
+association_grows ids _ = omega arith
+
+-- ---- the state
+
+module _ (K : Known) (kept : List (Point × Star)) (dirty : DirtyList) (version : ℕ) (ids : NextIds) (moment : ℕ) (e : Edit) where
+  abbrev s : State
+  s = held K kept dirty version ids
+
+  -- the ids that come next are new at each moment
+  pub new : IsState s → AreNew (next_at ids moment) K.features
+  new is = same_ids (next_of s) (next_at ids moment) K.features refl refl is.fresh_ids
+
+  module _ (left : Known) (kept_left : List (Point × Star)) (dirty_left : DirtyList) (ids_left : NextIds)
+      (left_is : left ≡ edited K ids moment e) (kept_is : kept_left ≡ kept) (dirty_is : dirty_left ≡ added dirty (dirtied K.features e))
+      (ids_are : next_at ids_left 0 ≡ after (next_at ids 0) e) where
+    abbrev with_parts : Known → List (Point × Star) → DirtyList → Next → State
+    with_parts L stars areas next = record {
+      setup = L.setup;
+      features = L.features;
+      kept = stars;
+      areas = areas.areas;
+      stored = [];
+      version = version;
+      next_feature = next.feature;
+      next_association = next.association;
+      next_area = areas.next;
+    }
+
+    pub state_is : held left kept_left dirty_left version ids_left ≡ made_at moment s e
+    state_is =
+        let next : next_at ids_left moment ≡ after (next_at ids moment) e = ap (λ (n : Next). record n { moment = moment }) ids_are ∙ after_moment ids moment e in
+        λ i. with_parts (left_is i) (kept_is i) (dirty_is i) (next i)
+
+    pub is_state : IsState s → MayBeMade (setting s) (next_with s moment) s.features e → IsState (held left kept_left dirty_left version ids_left)
+    is_state is may = subst IsState (sym state_is) (made_state s is moment e may)
+
+    pub features_grow : FeaturesGrow s (held left kept_left dirty_left version ids_left)
+    features_grow = let is = ap (λ (n : Next). n.feature) ids_are in let grows = feature_grows ids e in omega (arith, is, grows)
+
+    pub associations_grow : AssociationsGrow s (held left kept_left dirty_left version ids_left)
+    associations_grow = let is = ap (λ (n : Next). n.association) ids_are in let grows = association_grows ids e in omega (arith, is, grows)
+
+    areas_grow : length dirty_left.areas ≤ 65536 → AreasGrow s (held left kept_left dirty_left version ids_left)
+    areas_grow few = record {
+      given =
+          let rects = dirtied K.features e in
+          let next : dirty_left.next ≡ dirty.next + length rects = ap (λ (d : DirtyList). d.next) dirty_is in
+          let areas : length dirty_left.areas ≡ length (dirty.areas ++ enumerate_from dirty.next rects) = ap (λ (d : DirtyList). length d.areas) dirty_is in
+          let counted = length-append dirty.areas (enumerate_from dirty.next rects) in
+          let as_many = length-enumerate_from dirty.next rects in
+          omega (arith, next, areas, counted, as_many);
+      few = few;
+    }
+
+    pub areas_grow_of : (t : State) → s ≡ t → length dirty_left.areas ≤ 65536 → AreasGrow t (held left kept_left dirty_left version ids_left)
+    areas_grow_of t same few = subst (λ (t : State). AreasGrow t (held left kept_left dirty_left version ids_left)) same (areas_grow few)
+
+-- ---- refusals
+
+-- beside the numbers, an edit is refused for what it does to the features, and then for the areas
+pub two_none : (a b : Option Refusal) → a ≡ None → b ≡ None → first_due (a ∷ b ∷ []) ≡ None
+two_none a b p q = (λ i. first_due (p i ∷ q i ∷ []))
+
+pub two_first : (a b : Option Refusal) (r : Refusal) → a ≡ Some r → first_due (a ∷ b ∷ []) ≡ Some r
+two_first a b r p = (λ i. first_due (p i ∷ b ∷ []))
+
+pub two_second : (a b : Option Refusal) (r : Refusal) → a ≡ None → b ≡ Some r → first_due (a ∷ b ∷ []) ≡ Some r
+two_second a b r p q = (λ i. first_due (p i ∷ q i ∷ []))
+
+-- the numbers are looked at first
+pub edit_bad : (s : State) (e : Edit) (r : Refusal) → numbers_due s ≡ Some r → edit_due s e ≡ Some r
+edit_bad s e r due = λ i. first_due (due i ∷ beside_numbers s e)
+
+pub edit_beside : (s : State) (e : Edit) (d : Option Refusal) → numbers_due s ≡ None → first_due (beside_numbers s e) ≡ d → edit_due s e ≡ d
+edit_beside s e d none beside = (λ i. first_due (none i ∷ beside_numbers s e)) ∙ beside

@@ -1,0 +1,15 @@
+-- How the numbers of a state grow by an edit.
+use Rattle.std.specs.Prelude.{◌≡◌, ◌+◌, ◌≤◌, length}
+use Rattle.un_core.specs.State.{State}
+
+-- at most one id of a feature is given, and at most one of an association
+abbrev pub FeaturesGrow : State → State → Type 0
+FeaturesGrow before after = after.next_feature ≤ before.next_feature + 1
+
+abbrev pub AssociationsGrow : State → State → Type 0
+AssociationsGrow before after = after.next_association ≤ before.next_association + 1
+
+-- as many numbers of areas are given as there are more areas, of which there are few
+pub record AreasGrow (before after : State) : Type 0 where
+  pub given : after.next_area + length before.areas ≡ before.next_area + length after.areas
+  pub few : length after.areas ≤ 65536

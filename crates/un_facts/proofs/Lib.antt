@@ -1,0 +1,9 @@
+pub mod Edited
+pub mod Attributes
+pub mod Alone
+pub mod Makeable
+pub mod Partners
+pub mod Linked
+pub mod Placed
+pub mod Settled
+pub mod NoMemory

@@ -1,0 +1,9 @@
+pub mod Known
+pub mod Attributes
+pub mod Standing
+pub mod Refusals
+pub mod Partners
+pub mod Rectangles
+pub mod Standers
+pub mod Places
+pub mod Laws

@@ -1,0 +1,156 @@
+//! The features, and the look-ups of them.
+ghost use Rattle.std.specs.Prelude.{◌≡◌, length, IfOk};
+ghost use Rattle.std.specs.Option.{option_copied};
+ghost use Rattle.un_defs.specs.Features.{row as row_with, associations_of};
+ghost use Rattle.un_defs.specs.Ports.{ports};
+ghost use Rattle.un_defs.specs.Star.{controller_at};
+ghost use Rattle.un_facts.specs.Known.{opening, settled_at};
+ghost use Rattle.un_facts.specs.Places.{ArePlaces};
+ghost use Rattle.un_facts.specs.Standing.{IsKnown};
+
+use crate::live::Live;
+use crate::setup::Setup;
+use std::alloc::{AllocError, Global};
+use std::marker::Model;
+use std::sync::Arc;
+use un_assoc::Assocs;
+use un_defs::{Assoc, Controller, Port, Row};
+use un_geom::{Point, Rect};
+use un_grid::Grid;
+use un_schema::Schema;
+use un_store::Store;
+use un_tiers::Tiers;
+
+/// The schema and the tiers, the rows, the associations and controllers, and which ports stand where. It never changes: an edit gives new
+/// features, which share with these what stays.
+#[derive(Drop)]
+pub struct Facts {
+    pub(crate) setup: Arc<Setup>,
+    pub(crate) rows: Store,
+    pub(crate) assocs: Assocs,
+    pub(crate) grid: Grid,
+}
+
+impl Model for Facts {
+    ghost use Rattle.std.specs.Arc.{arc_value};
+    ghost use Rattle.std.specs.Coded.{codes};
+    ghost use Rattle.un_grid.specs.Grids.{IsGridOf};
+    ghost use Rattle.un_facts.specs.Known.{Known, features_of};
+    ghost use Rattle.un_facts.specs.Standing.{IsKnown};
+    ghost use Rattle.un_facts.specs.contracts.setup.Setup as setup_row;
+
+    ghost Value = { Known };
+
+    ghost coded = { Prim.hlevel (codes, setup_row.the_row.coded) };
+
+    ghost view = { λ f. record { setup = arc_value f.setup; features = features_of (arc_value f.setup).schema f.rows f.assocs } };
+
+    ghost invariant = { λ f. IsKnown (record { setup = arc_value f.setup; features = features_of (arc_value f.setup).schema f.rows f.assocs })
+        × IsGridOf f.grid (features_of (arc_value f.setup).schema f.rows f.assocs) };
+}
+
+impl Facts {
+    /// No features yet, under a schema and tiers.
+    pub fn open(alloc: Global, schema: Schema, tiers: Tiers) -> Result<Facts, AllocError>
+        ensures { IfOk result (λ facts. facts ≡ opening (record { schema = schema; tiers = tiers })) }
+    {
+        Ok(Facts {
+            setup: Arc::new(alloc, Setup { schema, tiers })?,
+            rows: Store::new(alloc),
+            assocs: Assocs::new(alloc),
+            grid: Grid::new(alloc),
+        })
+    }
+
+    /// Equal features, which share all pages.
+    pub fn share(&self) -> Result<Facts, AllocError>
+        ensures { IfOk result (λ facts. facts ≡ self.now) }
+    {
+        Ok(Facts {
+            setup: self.setup.clone()?,
+            rows: self.rows.share()?,
+            assocs: self.assocs.share()?,
+            grid: self.grid.share()?,
+        })
+    }
+
+    /// The schema and the tiers.
+    pub fn setup(&self) -> &Setup
+        ensures setup { result.now ≡ self.now.setup }
+        ensures known { IsKnown self.now }
+    {
+        &self.setup
+    }
+
+    /// The row with this id, if there is one.
+    pub fn row(&self, id: u64) -> Option<&Row>
+        ensures { option_copied result ≡ row_with self.now.features id }
+    {
+        self.rows.row(id)
+    }
+
+    /// The schema, whose rules are those in force.
+    pub fn schema(&self) -> &Schema
+        ensures { result.now ≡ self.now.setup.schema }
+    {
+        &self.setup.schema
+    }
+
+    /// The ports that stand at a point, rising.
+    pub fn ports_at(&self, p: Point) -> &[Port]
+        ensures { result.now ≡ ports self.now.features p }
+    {
+        self.grid.at(p)
+    }
+
+    /// The associations of which the row is an end, by rising id.
+    pub fn assocs_of(&self, alloc: Global, id: u64) -> Result<Vec<Assoc>, AllocError>
+        ensures { IfOk result (λ found. found.items ≡ associations_of self.now.features id) }
+    {
+        let found = self.assocs.of(alloc, id)?;
+        Ok(found)
+    }
+
+    /// The controller on a terminal, if there is one.
+    pub fn controller_at(&self, port: Port) -> Option<&Controller>
+        ensures { option_copied result ≡ controller_at self.now.features port }
+    {
+        self.assocs.controller_at(port)
+    }
+
+    /// The features as stars are built of them.
+    pub fn live(&self) -> Live<'_>
+        ensures { result.facts.now ≡ self.now }
+    {
+        // For the proof alone.
+        let _setup = &self.setup;
+        Live { facts: self }
+    }
+
+    /// How many rows there are.
+    pub fn len(&self) -> u64
+        ensures { result ≡ length self.now.features.rows }
+    {
+        self.rows.len()
+    }
+
+    /// The points at which something stands and that the rectangle covers, by x, y and z.
+    pub fn points(&self, alloc: Global, extent: Rect) -> Result<Vec<Point>, AllocError>
+        ensures { IfOk result (λ points. ArePlaces self.now.features extent points.items) }
+    {
+        let points = self.grid.points(alloc, extent)?;
+        Ok(points)
+    }
+
+    /// The features once the rows with these ids have the moment.
+    pub fn settle(&self, alloc: Global, ids: &[u64], moment: u64) -> Result<Facts, AllocError>
+        ensures { IfOk result (λ facts. facts ≡ settled_at self.now ids.now moment) }
+    {
+        Ok(Facts {
+            setup: self.setup.clone()?,
+            rows: self.rows.settle(alloc, ids, moment)?,
+            assocs: self.assocs.share()?,
+            grid: self.grid.share()?,
+        })
+    }
+}

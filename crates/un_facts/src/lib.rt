@@ -1,0 +1,41 @@
+//! The features of a network: rows, associations and controllers, with the ports that stand at each point.
+//!
+//! # What is to be found
+//!
+//! An edit changes the features, or is refused for the first cause that is there. It also makes rectangles dirty, under which the topology is
+//! no longer that of the features.
+//!
+//! # How it is found
+//!
+//! [`Facts`] holds a store of rows, one of associations and controllers, and the grid of ports, each an ordered map on shared pages. An edit
+//! ([`edit`]) of a row is one of the store of rows; what stands on the row may refuse it, and the ports of the row are put in place of those
+//! that it had ([`standing`], [`ports`]). An edit of an association or of a controller is one of the other store. The rectangles
+//! ([`rectangles`]) are the envelope of the row before the edit, the one after it, and those of other rows: the partners of a row that moves
+//! or becomes of another kind, and the ends of an association.
+//!
+//! # Why that is enough
+//!
+//! Only a row's own edits change its ports, so the grid stays that of all features. Which rows have stars that change is a law of the
+//! definitions: an edit changes the star at no point outside its rectangles.
+//!
+//! # What it costs
+//!
+//! Each store takes time by the logarithm of what it holds, and the old features share with the new ones all pages but those on the way to
+//! what changed. A row that moves or becomes of another kind costs a look-up for each of its associations.
+#![tactic(auto)]
+
+pub mod edit;
+pub mod facts;
+pub mod ids;
+pub mod laws;
+pub mod live;
+mod ports;
+mod rectangles;
+pub mod setup;
+mod standing;
+
+pub use edit::Made;
+pub use facts::Facts;
+pub use ids::NextIds;
+pub use live::Live;
+pub use setup::Setup;
