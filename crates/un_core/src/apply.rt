@@ -137,7 +137,10 @@ impl Net {
         match self.batch(alloc, edits) {
             Ok(
                 Batched {
-                    net, ids, dirtied, ..
+                    net,
+                    ids,
+                    touched: _touched,
+                    dirtied,
                 },
             ) => {
                 let reply = Reply::Batch {

@@ -41,7 +41,7 @@ impl From<AllocError> for BatchFault {
 pub(crate) struct Batched {
     pub(crate) net: Net,
     pub(crate) ids: Vec<u64>,
-    touched: Vec<u64>,
+    pub(crate) touched: Vec<u64>,
     pub(crate) dirtied: Vec<Rect>,
 }
 

@@ -1,12 +1,19 @@
 -- Edits of associations and controllers, over a network of which only the rows are looked up.
-use Rattle.std.proofs.Common.{◌≡◌, refl, List}
+use Rattle.std.proofs.Common.{◌≡◌, ℕ, refl, sym, ap, ◌∙◌, List}
 use Rattle.un_defs.specs.declared.edit.Edit.{Edit}
 use Rattle.un_defs.specs.declared.edit.Edit.TheVariants as edit
 use Rattle.un_defs.specs.declared.row.Row.{Row}
 use Rattle.un_schema.specs.declared.rule.Rule.{Rule}
 use Rattle.un_defs.specs.Features.{Features}
-use Rattle.un_defs.specs.Change.{Setting}
-use Rattle.un_assoc.specs.Links.{Links}
+use Rattle.un_defs.specs.Change.{Setting, changed}
+use Rattle.un_store.specs.Edits.{only_rows}
+use Rattle.un_assoc.specs.Links.{Links, links_of, with_links}
+use Rattle.un_assoc.specs.Words.{IsLinkEdit}
+use Rattle.un_assoc.specs.Edits.{next_of, IsMade}
+use Rattle.un_assoc.specs.Lawful.{LinksAloneLaw, links_after}
+use Rattle.un_facts.specs.declared.setup.Setup.{Setup}
+use Rattle.un_facts.specs.declared.ids.NextIds.{NextIds}
+use Rattle.un_facts.specs.Known.{features_of, setting, next_at}
 use Rattle.un_assoc.specs.Refusals.{refusal_of}
 
 -- the features with rules of their own
@@ -23,3 +30,13 @@ rules_aside T rows links first second (edit.Detach assoc) = refl
 rules_aside T rows links first second (edit.Controller id terminal tier subnet) = refl
 rules_aside T rows links first second (edit.Uncontroller id terminal) = refl
 rules_aside T rows links first second _ = refl
+
+-- what such an edit leaves beside rows that stay is what it leaves of the whole network
+pub link_left : LinksAloneLaw → (S : Setup) (rows : List Row) (before after : Links) (ids : NextIds) (moment : ℕ) (e : Edit) → IsLinkEdit e
+    → IsMade (setting S) ids.association (only_rows rows) before e after
+    → features_of S.schema rows after ≡ changed (setting S) (next_at ids moment) (features_of S.schema rows before) e
+link_left alone S rows before after ids moment e word made =
+    let F = features_of S.schema rows before in
+    let links : after ≡ links_after (setting S) ids.association before e =
+    ap links_of made ∙ ap links_of (alone (setting S) (next_of ids.association) (with_links (only_rows rows) before) e word) in
+    ap (with_links F) links ∙ sym (alone (setting S) (next_at ids moment) F e word)

@@ -6,7 +6,7 @@ use Rattle.un_defs.specs.declared.edit.Edit.{Edit}
 use Rattle.un_defs.specs.Features.{Features}
 use Rattle.un_defs.specs.Change.{Setting, Next, changed}
 use Rattle.un_store.specs.Edits.{settled}
-use Rattle.un_assoc.specs.Links.{Links}
+use Rattle.un_assoc.specs.Links.{Links, with_links}
 use Rattle.un_facts.specs.declared.setup.Setup.{Setup}
 use Rattle.un_facts.specs.declared.ids.NextIds.{NextIds}
 
@@ -34,6 +34,10 @@ edited K ids moment e = record K { features = changed (setting K.setup) (next_at
 -- what is known once the rows with these ids have the moment
 abbrev pub settled_at : Known → List ℕ → ℕ → Known
 settled_at K ids moment = record K { features = record K.features { rows = settled ids moment K.features.rows } }
+
+-- what is known with these associations and controllers in place of its own
+abbrev pub linked : Known → Links → Known
+linked K links = record K { features = with_links K.features links }
 
 -- before the first edit
 abbrev pub opening : Setup → Known

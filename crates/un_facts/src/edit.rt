@@ -5,7 +5,8 @@ ghost use Rattle.un_defs.specs.Laws.{AreNew, MayBeMade};
 ghost use Rattle.un_defs.specs.Dirtied.{dirtied};
 ghost use Rattle.un_store.specs.Words.{IsRowEdit};
 ghost use Rattle.un_assoc.specs.Words.{IsLinkEdit};
-ghost use Rattle.un_facts.specs.Known.{setting, next_at, edited};
+ghost use Rattle.un_facts.specs.Known.{setting, next_at, edited, linked};
+ghost use Rattle.un_facts.specs.Standing.{IsKnown};
 ghost use Rattle.un_facts.specs.Refusals.{is_row_edit, is_of_features, refusal_of};
 
 use crate::facts::Facts;
@@ -13,7 +14,8 @@ use crate::ids::NextIds;
 use crate::ports::with_ports;
 use crate::rectangles::row_of;
 use crate::setup::Setup;
-use std::alloc::Global;
+use std::alloc::{AllocError, Global};
+use un_assoc::Assocs;
 use un_assoc::laws::links_alone;
 use un_defs::{Edit, Refusal};
 use un_geom::Rect;
@@ -79,6 +81,22 @@ impl Facts {
         Ok(Made { facts, dirtied })
     }
 
+    // The same features but for the associations and controllers.
+    fn with_assocs(&self, assocs: Assocs) -> Result<Facts, AllocError>
+        requires { IsKnown (linked self.now assocs) }
+        ensures { IfOk result (λ facts. facts ≡ linked self.now assocs) }
+    {
+        let setup = self.setup.clone()?;
+        let rows = self.rows.share()?;
+        let grid = self.grid.share()?;
+        Ok(Facts {
+            setup,
+            rows,
+            assocs,
+            grid,
+        })
+    }
+
     /// The features once an edit of an association or of a controller is made.
     fn edit_link(
         &self,
@@ -103,12 +121,7 @@ impl Facts {
             .assocs
             .edit(alloc, edit, &self.rows, schema, tiers, ids.association)?;
         let dirtied = self.rectangles(alloc, edit, None, None)?;
-        let facts = Facts {
-            setup: self.setup.clone()?,
-            rows: self.rows.share()?,
-            assocs,
-            grid: self.grid.share()?,
-        };
+        let facts = self.with_assocs(assocs)?;
         Ok(Made { facts, dirtied })
     }
 

@@ -6,6 +6,7 @@ use un_steps::Steps;
 
 mod causes;
 mod edits;
+mod links;
 
 // More room than any output here needs.
 const ROOM: usize = 65_536;
