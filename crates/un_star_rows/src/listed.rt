@@ -5,7 +5,9 @@ ghost use Rattle.un_defs.specs.Sound.{IsSound};
 ghost use Rattle.un_grid.specs.Grids.{IsGridOf};
 ghost use Rattle.un_star_rows.specs.Lists.{features_of, only, IsNumbered, row_id, touching_of};
 
-use crate::parts::{Assocs, at_number, copied, found, gridded, may_control, paired, planned, touching};
+use crate::parts::{
+    Assocs, at_number, copied, found, gridded, may_control, paired, planned, touching,
+};
 use crate::plan::{NotSound, Pair, Plan};
 use std::alloc::{AllocError, Global};
 use un_defs::{Assoc, Controller, Port, Row, Rows};

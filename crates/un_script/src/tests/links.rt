@@ -37,7 +37,9 @@ fn a_partner_that_moves_is_dirty_at_both_ends(rt: HostRuntime) -> Result<(), Fai
 }
 
 #[test]
-fn an_association_that_no_rule_allows_is_an_error_at_both_ends(rt: HostRuntime) -> Result<(), Fail> {
+fn an_association_that_no_rule_allows_is_an_error_at_both_ends(
+    rt: HostRuntime,
+) -> Result<(), Fail> {
     let lines = b"{\"do\":\"insert\",\"kind\":\"valve\",\"points\":[[0,0,0]]}
 {\"do\":\"insert\",\"kind\":\"joint\",\"points\":[[5,0,0]]}
 {\"do\":\"connect\",\"from\":[1,1],\"to\":[2,1]}
