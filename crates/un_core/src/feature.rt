@@ -10,7 +10,7 @@ use crate::net::Net;
 use std::alloc::{AllocError, Global};
 use std::collections::BTreeSet;
 use un_ask::{FeatureReply, Points, Reply};
-use un_defs::{NamedAttrs, Refusal, Row, Rows};
+use un_defs::{NamedAttrs, Refusal, Row};
 use un_schema::{Name, Schema};
 
 /// An attribute with its name, by which it compares.

@@ -5,7 +5,7 @@ ghost use Rattle.un_core.specs.Answers.{start_node, start_nodes, no_feature, no_
 
 use crate::net::Net;
 use std::alloc::{AllocError, Global};
-use un_defs::{Node, Port, Refusal, Rows};
+use un_defs::{Node, Port, Refusal};
 
 impl Net {
     /// The node of a port of a live row.

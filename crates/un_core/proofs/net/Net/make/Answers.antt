@@ -67,3 +67,8 @@ returns-clause-areas c =
 
 pub returns-clause-may : goal.returns-clause-may
 returns-clause-may c = subst (λ (s : State). MayBeMade (setting s) (next_with s c.args.moment) s.features c.args.edit.now) c.self.view_is c.in_ok-facts.ensures.may
+
+pub returns-in_err-share-clause-bad : goal.returns-in_err-share-clause-bad
+returns-in_err-share-clause-bad c =
+    let p = err_from_is_err_and c.from_residual-in_err-share.result c.from_residual-in_err-share.ensures.1 in
+    rw (p.1, p.2) (λ memory. absurd (memory refl))
