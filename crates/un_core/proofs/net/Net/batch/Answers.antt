@@ -1,4 +1,5 @@
-use Rattle.std.proofs.Common.{◌≡◌, ◌+◌, sym, ap, subst, ◌∙◌}
+use Rattle.std.proofs.Common.{◌≡◌, ◌+◌, refl, sym, ap, subst, ◌∙◌}
+use Rattle.std.proofs.lemmas.Result.{err_from_is_err_and}
 use Rattle.un_ask.specs.declared.request.Command.TheVariants as command
 use Rattle.un_facts.specs.Known.{settled_at}
 use Rattle.un_core.specs.State.{State}
@@ -30,3 +31,8 @@ returns-clause-state c =
     ap (λ K. held K n.kept n.dirty moment n.ids) c.in_ok-net-inside.ensures
     ∙ batched_is s es n.facts n.kept n.dirty n.version moment n.ids c.deref.result.now
     (c.net.view_is ∙ c.in_ok-net.ensures.state) (c.deref.ensures.value ∙ c.in_ok-net.ensures.touched) (ap (λ (t : State). t.version + 1) c.self.view_is)
+
+pub returns-in_err-net-inside-clause-bad : goal.returns-in_err-net-inside-clause-bad
+returns-in_err-net-inside-clause-bad c =
+    let p = err_from_is_err_and c.from_residual-in_err-net-inside.result c.from_residual-in_err-net-inside.ensures.1 in
+    rw (p.1, p.2) (λ other. absurd (other refl))

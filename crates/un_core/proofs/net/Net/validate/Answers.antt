@@ -1,4 +1,5 @@
-use Rattle.std.proofs.Common.{arith, ◌≡◌, ◌+◌, sym, ap, ◌∙◌, subst, length}
+use Rattle.std.proofs.Common.{arith, refl, ◌≡◌, ◌+◌, sym, ap, ◌∙◌, subst, length}
+use Rattle.std.proofs.lemmas.Result.{err_from_is_err_and}
 use Rattle.std.specs.List.{sum_by}
 use Rattle.un_dirty.specs.Areas.{cleared}
 use Rattle.un_core.specs.State.{fresh_star}
@@ -61,3 +62,8 @@ returns-clause-cleared c =
     let areas : c.deref.result.now ≡ met c.args.extent c.args.self.now.areas =
     c.deref.ensures.value ∙ c.in_ok-areas.ensures ∙ ap (λ t. met c.args.extent t.areas) c.self.view_is in
     omega (arith, c.len.ensures, c.deref.ensures.len, ap length areas)
+
+pub returns-in_err-clear_meeting-clause-bad : goal.returns-in_err-clear_meeting-clause-bad
+returns-in_err-clear_meeting-clause-bad c =
+    let p = err_from_is_err_and c.from_residual-in_err-clear_meeting.result c.from_residual-in_err-clear_meeting.ensures.1 in
+    rw (p.1, p.2) (λ memory. absurd (memory refl))
