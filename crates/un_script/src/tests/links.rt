@@ -152,9 +152,9 @@ fn of_two_causes_the_earlier_one_is_answered(rt: HostRuntime) -> Result<(), Fail
 {\"do\":\"attach\",\"structure\":4,\"content\":3}
 {\"do\":\"attach\",\"structure\":5,\"content\":5}
 {\"do\":\"detach\",\"assoc\":3}
-{\"do\":\"controller\",\"id\":90,\"terminal\":9,\"tier\":\"area\",\"subnet\":\"A\"}
-{\"do\":\"controller\",\"id\":2,\"terminal\":9,\"tier\":\"area\",\"subnet\":\"A\"}
-{\"do\":\"controller\",\"id\":7,\"terminal\":9,\"tier\":\"area\",\"subnet\":\"A\"}
+{\"do\":\"controller\",\"id\":90,\"terminal\":8,\"tier\":\"area\",\"subnet\":\"A\"}
+{\"do\":\"controller\",\"id\":2,\"terminal\":8,\"tier\":\"area\",\"subnet\":\"A\"}
+{\"do\":\"controller\",\"id\":7,\"terminal\":8,\"tier\":\"area\",\"subnet\":\"A\"}
 {\"do\":\"controller\",\"id\":7,\"terminal\":1,\"tier\":\"zone\",\"subnet\":\"A\"}
 {\"do\":\"controller\",\"id\":7,\"terminal\":1,\"tier\":\"area\",\"subnet\":\"A\"}
 {\"do\":\"controller\",\"id\":7,\"terminal\":1,\"tier\":\"zone\",\"subnet\":\"B\"}
