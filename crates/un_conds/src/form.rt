@@ -1,9 +1,10 @@
-ghost use Rattle.std.specs.Prelude.{◌≡◌, ◌<◌, ◌==◌, find};
+ghost use Rattle.std.specs.Prelude.{◌≡◌, ◌<◌, ◌==◌, find, IfOk};
 ghost use Rattle.un_conds.specs.Conditions.{has_bit, tests, holds};
 ghost use Rattle.un_conds.specs.Sizes.{HasSmallNumbers};
 ghost use Rattle.un_conds.specs.Forms.{plain};
 
 use crate::op::Op;
+use std::alloc::{AllocError, Global};
 
 /// A condition's form, with attributes and categories by their numbers.
 #[derive(Drop)]
@@ -50,5 +51,29 @@ pub(crate) fn form_holds(form: &Form, attrs: &[(u8, i64)], cats: u32) -> bool
         Form::Or(first, second) => form_holds(first, attrs, cats)
             || form_holds(second, attrs, cats),
         Form::Not(inner) => !form_holds(inner, attrs, cats),
+    }
+}
+
+/// An equal form. Calls itself once for each level of the form.
+pub(crate) fn copy_form(alloc: Global, form: &Form) -> Result<Form, AllocError>
+    ensures { IfOk result (λ same. plain same ≡ plain form.now) }
+{
+    match form {
+        Form::Has(category) => Ok(Form::Has(*category)),
+        Form::Test(op, attribute, number) => Ok(Form::Test(*op, *attribute, *number)),
+        Form::And(first, second) => {
+            let first = Box::new(alloc, copy_form(alloc, first)?)?;
+            let second = Box::new(alloc, copy_form(alloc, second)?)?;
+            Ok(Form::And(first, second))
+        }
+        Form::Or(first, second) => {
+            let first = Box::new(alloc, copy_form(alloc, first)?)?;
+            let second = Box::new(alloc, copy_form(alloc, second)?)?;
+            Ok(Form::Or(first, second))
+        }
+        Form::Not(inner) => {
+            let inner = Box::new(alloc, copy_form(alloc, inner)?)?;
+            Ok(Form::Not(inner))
+        }
     }
 }
