@@ -27,7 +27,7 @@ use Rattle.un_defs.proofs.Rising.{Among, among_from-rising}
 use Rattle.un_defs.proofs.Members.{among_from-filter, among-filter, among-map, contains_from_among, among_from_contains, among_from_list_any, list_any_from_among}
 use Rattle.un_defs.proofs.LinkCases.{IsOneOf, both_true, from-node_of, some_same}
 use Rattle.un_defs.proofs.Unique.{unique_by, node_same}
-use Rattle.un_defs.proofs.Standing.{from_nodes, from_entry, entry_of, links_from_ties}
+use Rattle.un_defs.proofs.Standing.{from_nodes, links_from_ties}
 use Rattle.un_defs.proofs.LinkEnds.{name_unique}
 use Rattle.un_defs.proofs.BothEnds.{both_ends, from_links, from_ties_by, IsTieBy, at_first, at_second, other_stands}
 use Rattle.un_defs.proofs.TwoGrounds.{two_grounds}

@@ -1,5 +1,5 @@
 -- Nodes with the entries that were looked up for them.
-use Rattle.std.specs.Prelude.{ℕ, ◌==◌, List, [], map, filter, filter_map, slice_get, Option}
+use Rattle.std.specs.Prelude.{ℕ, ◌==◌, List, map, filter, filter_map, slice_get, Option}
 use Rattle.std.specs.Option.{option_copied}
 use Rattle.un_defs.specs.declared.port.Node.{Node}
 use Rattle.un_defs.specs.declared.star.Spot.{Spot}

@@ -9,7 +9,6 @@ ghost use Rattle.un_walk.specs.Growth.{Grows};
 ghost use Rattle.un_walk.specs.Ticks.{IsLookedUpOnce};
 
 use crate::dirt::dirt_after;
-use crate::entries::{entry_of, is_stop, meets_condition};
 use crate::found::Found;
 use crate::ways::{Place, follow};
 use std::alloc::{AllocError, Global};
@@ -60,17 +59,17 @@ fn visit<G: Ground, L>(
     if is_shut_by_dirt(barriers, dirty_here) {
         return Ok(());
     }
-    if is_stop(barriers, node.port) {
+    if barriers.stop_at(node.port) {
         return Ok(());
     }
     steps.tick();
     let Some(star) = over.star(node.at) else {
         return Ok(());
     };
-    let Some(spot) = entry_of(star, node.port) else {
+    let Some(spot) = star.entry(node.port) else {
         return Ok(());
     };
-    if meets_condition(barriers, spot) {
+    if barriers.are_met_by(spot) {
         return Ok(());
     }
     follow(

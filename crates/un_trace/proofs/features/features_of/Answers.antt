@@ -1,4 +1,4 @@
-use Rattle.std.proofs.Common.{◌+◌, List, [], ◌∷◌, ◌++◌, map, take, take_all, sym, ap, subst, ◌∙◌, arith, IsSorted}
+use Rattle.std.proofs.Common.{List, [], ◌∷◌, ◌++◌, map, take, take_all, sym, ap, subst, ◌∙◌, arith, IsSorted}
 use Rattle.std.specs.Ordering.{nat_cmp}
 use Rattle.std.specs.List.{cons_option}
 use Rattle.un_trace.specs.declared.nodes.Seen.{Seen}

@@ -26,40 +26,40 @@ returns-then-is_shut_by_dirt-clause-next g c =
     grows_none c.args.found.now (leads G B c.args.mode n) (leads_not G B c.args.mode n (shut_by_dirt G B c.args.mode n
     (ap (λ b. B.consistent && b) (sym c.requires) ∙ sym c.is_shut_by_dirt.ensures ∙ c.if-is_shut_by_dirt.true)))
 
-pub returns-then-is_stop-clause-next : goal.returns-then-is_stop-clause-next
-returns-then-is_stop-clause-next g c =
+pub returns-then-stop_at-clause-next : goal.returns-then-stop_at-clause-next
+returns-then-stop_at-clause-next g c =
     let G = g.G.Ground.stars_and_areas c.args.over.now in
     let B = c.args.barriers.now in
     let n = c.args.node in
-    grows_none c.args.found.now (leads G B c.args.mode n) (leads_not G B c.args.mode n (shut_by_stop G B c.args.mode n (sym c.is_stop.ensures ∙ c.if-is_stop.true)))
+    grows_none c.args.found.now (leads G B c.args.mode n) (leads_not G B c.args.mode n (shut_by_stop G B c.args.mode n (sym c.stop_at.ensures ∙ c.if-stop_at.true)))
 
-pub returns-in_default-entry_of-clause-next : goal.returns-in_default-entry_of-clause-next
-returns-in_default-entry_of-clause-next g c =
+pub returns-in_default-entry-clause-next : goal.returns-in_default-entry-clause-next
+returns-in_default-entry-clause-next g c =
     let G = g.G.Ground.stars_and_areas c.args.over.now in
     let B = c.args.barriers.now in
     let n = c.args.node in
     grows_none c.args.found.now (leads G B c.args.mode n) (leads_nowhere G B c.args.mode n
-    (entry_here G n c.in-Some.star.now None c.in-Some.ensures.some c.in_default-entry_of.ensures))
+    (entry_here G n c.in-Some.star.now None c.in-Some.ensures.some c.in_default-entry.ensures))
 
-pub returns-then-meets_condition-clause-next : goal.returns-then-meets_condition-clause-next
-returns-then-meets_condition-clause-next g c =
+pub returns-then-are_met_by-clause-next : goal.returns-then-are_met_by-clause-next
+returns-then-are_met_by-clause-next g c =
     let G = g.G.Ground.stars_and_areas c.args.over.now in
     let B = c.args.barriers.now in
     let n = c.args.node in
-    let spot = c.in-Some-entry_of.spot.now in
+    let spot = c.in-Some-entry.spot.now in
     grows_none c.args.found.now (leads G B c.args.mode n) (leads_not G B c.args.mode n (shut_by_condition G B c.args.mode n spot
-    (entry_here G n c.in-Some.star.now (Some spot) c.in-Some.ensures.some c.in-Some-entry_of.ensures)
-    (sym c.meets_condition.ensures ∙ c.if-meets_condition.true)))
+    (entry_here G n c.in-Some.star.now (Some spot) c.in-Some.ensures.some c.in-Some-entry.ensures)
+    (sym c.are_met_by.ensures ∙ c.if-are_met_by.true)))
 
 pub returns-clause-next : goal.returns-clause-next
 returns-clause-next g c =
     let G = g.G.Ground.stars_and_areas c.args.over.now in
     let B = c.args.barriers.now in
     let n = c.args.node in
-    let spot = c.in-Some-entry_of.spot.now in
+    let spot = c.in-Some-entry.spot.now in
     let open_here : is_open G B n ≡ true = is_open_by G B c.args.mode n spot
-    (entry_here G n c.in-Some.star.now (Some spot) c.in-Some.ensures.some c.in-Some-entry_of.ensures)
-    (sym c.meets_condition.ensures ∙ c.if-meets_condition.false) (sym c.is_stop.ensures ∙ c.if-is_stop.false)
+    (entry_here G n c.in-Some.star.now (Some spot) c.in-Some.ensures.some c.in-Some-entry.ensures)
+    (sym c.are_met_by.ensures ∙ c.if-are_met_by.false) (sym c.stop_at.ensures ∙ c.if-stop_at.false)
     (ap (λ b. B.consistent && b) (sym c.requires) ∙ sym c.is_shut_by_dirt.ensures ∙ c.if-is_shut_by_dirt.false) in
     on_ok c.follow.result _ _ (grows_same c.args.found.now c.follow.new.found (λ m. list_any (goes_by G B c.args.mode n m) (ties G n)) (leads G B c.args.mode n) (leads_open G B c.args.mode n open_here))
     c.follow.ensures.next
@@ -69,9 +69,9 @@ returns-clause-once g c =
     let G = g.G.Ground.stars_and_areas c.args.over.now in
     let B = c.args.barriers.now in
     let n = c.args.node in
-    let spot = c.in-Some-entry_of.spot.now in
+    let spot = c.in-Some-entry.spot.now in
     let open_here : is_open G B n ≡ true = is_open_by G B c.args.mode n spot
-    (entry_here G n c.in-Some.star.now (Some spot) c.in-Some.ensures.some c.in-Some-entry_of.ensures)
-    (sym c.meets_condition.ensures ∙ c.if-meets_condition.false) (sym c.is_stop.ensures ∙ c.if-is_stop.false)
+    (entry_here G n c.in-Some.star.now (Some spot) c.in-Some.ensures.some c.in-Some-entry.ensures)
+    (sym c.are_met_by.ensures ∙ c.if-are_met_by.false) (sym c.stop_at.ensures ∙ c.if-stop_at.false)
     (ap (λ b. B.consistent && b) (sym c.requires) ∙ sym c.is_shut_by_dirt.ensures ∙ c.if-is_shut_by_dirt.false) in
     λ once. on_ok c.follow.result _ _ (λ (e : c.follow.new.steps ≡ c.tick.new.self). omega (arith, e, c.tick.ensures)) (c.follow.ensures.once (ties_stay G B n once open_here))
