@@ -5,7 +5,7 @@ use Rattle.std.specs.List.{filter}
 use Rattle.std.specs.Option.{option_map}
 use Rattle.un_defs.specs.declared.assoc.Assoc.{Assoc}
 use Rattle.un_defs.specs.Star.{is_containment}
-use Rattle.un_assoc.specs.Containing.{is_content, container_of, chain_of, containers_above}
+use Rattle.un_assoc.specs.Containing.{is_content, container_of}
 use Rattle.un_assoc.specs.Lawful.{ChainsEndLaw}
 use Rattle.un_assoc.proofs.Chains.{is_among, chain_end, chain_on}
 

@@ -1,12 +1,11 @@
 -- The associations by their ends: one more, one less, and those of one feature.
 use Rattle.std.proofs.Common.{◌≡◌, ◌≢◌, ℕ, ◌<◌, Bool, true, false, not, ◌==◌, ◌&&◌, ◌||◌, List, [], ◌∷◌, ◌++◌, map, find, All, Some, None, cond, refl, sym, ◌∙◌, ap, subst, arith, eqb-true, append_assoc}
 use Rattle.std.proofs.lemmas.Bool.Decides.{nat_tests}
-use Rattle.std.proofs.lemmas.Cmp.{ranked}
-use Rattle.std.proofs.lemmas.List.{append-nil, map-append}
+use Rattle.std.proofs.lemmas.List.{append-nil}
 use Rattle.std.proofs.lemmas.List.Elements.{recursion_from_All}
 use Rattle.std.specs.declared.cmp.Ordering.{Ordering}
 use Rattle.std.specs.declared.cmp.Ordering.TheVariants.{Less, Equal, Greater}
-use Rattle.std.specs.Ordering.{nat_cmp, is_eq, match_ordering}
+use Rattle.std.specs.Ordering.{is_eq, match_ordering}
 use Rattle.std.specs.Cmp.{IsTotalOrder}
 use Rattle.std.specs.Prelude.{slice_get}
 use Rattle.std.specs.declared.ops.Bound.TheVariants.{Included}
@@ -23,7 +22,7 @@ use Rattle.un_defs.specs.Orders.{rising}
 use Rattle.un_assoc.specs.declared.ends.End.{End}
 use Rattle.un_assoc.specs.Indexes.{at_feature, AreEnds, IsRising}
 use Rattle.un_assoc.proofs.PairKeys.{pair_cmp, pair_total, pair_tie, pair_same, pair_above, run_from, run_none, run_other, run_begun}
-use Rattle.un_assoc.proofs.Lists.{others, IsSplit, split, filter_swapped, filter_twice, filter_last, filter_passed, all_filtered, rising_filtered, rising_already}
+use Rattle.un_assoc.proofs.Lists.{others, split, filter_swapped, filter_twice, filter_last, filter_passed, all_filtered, rising_filtered, rising_already}
 
 -- ends compare by feature, then by association
 abbrev pub end_cmp : End → End → Ordering

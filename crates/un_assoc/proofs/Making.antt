@@ -1,25 +1,22 @@
 -- What speaks for an edit for which no refusal is due.
-use Rattle.std.proofs.Common.{◌≡◌, ◌≢◌, ℕ, zero, suc, ◌<◌, Bool, true, false, not, ◌==◌, ◌&&◌, ◌||◌, List, [], ◌∷◌, find, length, All, Option, Some, None, IsSome, IsTrue, cond, refl, sym, ◌∙◌, ap, subst, arith, true≢false, eqb-true}
+use Rattle.std.proofs.Common.{◌≡◌, ◌≢◌, ℕ, Bool, true, false, not, ◌==◌, ◌&&◌, ◌||◌, List, [], ◌∷◌, find, All, Option, Some, None, IsSome, IsTrue, cond, refl, sym, ◌∙◌, ap, subst, arith, true≢false}
 use Rattle.std.proofs.lemmas.Bool.Decides.{nat_tests}
 use Rattle.std.specs.Prelude.{nat_le, is_some, IsSomeAnd, option_and_then}
 use Rattle.std.specs.List.{list_any}
-use Rattle.std.specs.Option.{option_map, option_map_or}
+use Rattle.std.specs.Option.{option_map_or}
 use Rattle.un_schema.specs.Classes.{is_structure}
 use Rattle.un_defs.specs.declared.port.Port.{Port}
 use Rattle.un_defs.specs.declared.row.Row.{Row}
 use Rattle.un_defs.specs.declared.assoc.Controller.{Controller}
 use Rattle.un_defs.specs.declared.assoc.AssocKind.TheVariants.{Connectivity, Containment, Attachment}
-use Rattle.un_defs.specs.declared.edit.Edit.{Edit}
 use Rattle.un_defs.specs.declared.edit.Edit.TheVariants as edit
 use Rattle.un_defs.specs.declared.refusal.Refusal.{Refusal}
 use Rattle.un_defs.specs.declared.refusal.Refusal.TheVariants as refusal
 use Rattle.un_defs.specs.Orders.{same_port}
 use Rattle.un_defs.specs.Features.{Features, row, is_joint, has_terminal}
-use Rattle.un_defs.specs.Star.{controller_at}
 use Rattle.std.proofs.lemmas.List.Elements.{All-nil, All-cons}
 use Rattle.un_defs.proofs.Unique.{port_itself}
 use Rattle.un_defs.specs.Sound.{IsLive, IsLiveJoint, HasEnds}
-use Rattle.un_defs.specs.Change.{Setting, Next}
 use Rattle.un_assoc.specs.Containing.{containers_above}
 use Rattle.un_assoc.specs.Refusals.{first_due, due_if, no_feature, of_feature, of_both, not_joints, no_terminal, not_containing, not_attaching, not_controlling, no_tier, in_itself, is_controlled, port_at}
 use Rattle.un_assoc.specs.Lawful.{MayBeMadeLaw}

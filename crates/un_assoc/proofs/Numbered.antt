@@ -1,5 +1,5 @@
 -- After an edit that got the next id, all ids are below the one after it.
-use Rattle.std.proofs.Common.{◌≡◌, ℕ, ◌+◌, ◌<◌, not, ◌==◌, List, [], ◌∷◌, ◌++◌, All, Option, Some, None, refl, sym, ◌∙◌, ap, subst, arith}
+use Rattle.std.proofs.Common.{◌≡◌, ℕ, ◌+◌, ◌<◌, not, ◌==◌, List, [], ◌∷◌, ◌++◌, All, Option, Some, None, refl, sym, ap, subst, arith}
 use Rattle.std.proofs.lemmas.List.Elements.{All-push, All-weaker, All-filter}
 use Rattle.un_schema.specs.Catalog.{place_of}
 use Rattle.un_defs.specs.declared.assoc.Assoc.{Assoc}

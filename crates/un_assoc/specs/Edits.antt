@@ -1,5 +1,5 @@
 -- The associations and controllers that an edit leaves.
-use Rattle.std.specs.Prelude.{◌≡◌, ◌≢◌, ℕ, List, [], map, Option, Some, None, IfOk, OnOk, IfErr, Result}
+use Rattle.std.specs.Prelude.{◌≡◌, ◌≢◌, ℕ, List, map, Some, None}
 use Rattle.un_schema.specs.Catalog.{Catalog}
 use Rattle.un_tiers.specs.declared.tier.Tier.{Tier}
 use Rattle.un_defs.specs.declared.edit.Edit.{Edit}
@@ -7,7 +7,7 @@ use Rattle.un_defs.specs.declared.refusal.Refusal.{Refusal}
 use Rattle.un_defs.specs.declared.refusal.Refusal.TheVariants.{Memory}
 use Rattle.un_defs.specs.Features.{Features}
 use Rattle.un_defs.specs.Change.{Setting, Next, changed}
-use Rattle.un_assoc.specs.Links.{Links, links_of, only_links, with_links}
+use Rattle.un_assoc.specs.Links.{Links, with_links}
 use Rattle.un_assoc.specs.Refusals.{refusal_of}
 
 -- the names of the schema and of the tiers

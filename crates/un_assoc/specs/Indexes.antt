@@ -5,8 +5,6 @@ use Rattle.std.specs.List.Sorted.{IsStrictlySortedBy}
 use Rattle.std.specs.Map.{keys_of, values_of, lookup}
 use Rattle.std.specs.BTreeMap.{is_at}
 use Rattle.un_defs.specs.declared.assoc.Assoc.{Assoc}
-use Rattle.un_defs.specs.declared.assoc.Controller.{Controller}
-use Rattle.un_defs.specs.declared.port.Port.{Port}
 use Rattle.un_defs.specs.Features.{is_end_of}
 use Rattle.un_assoc.specs.declared.ends.End.{End}
 use Rattle.un_assoc.specs.Containing.{is_content, contents_count}

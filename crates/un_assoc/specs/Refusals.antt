@@ -1,6 +1,6 @@
 -- What is looked at before an edit of associations or controllers is made, in order, and the refusal that is due.
 pub use Rattle.un_defs.specs.Dues.{first_due, due_if}
-use Rattle.std.specs.Prelude.{ℕ, nat_lt, ◌==◌, Bool, true, false, not, ◌&&◌, ◌||◌, List, [], ◌∷◌, length, Option, Some, None, is_none, is_some, option_and_then}
+use Rattle.std.specs.Prelude.{ℕ, nat_lt, ◌==◌, Bool, false, not, ◌&&◌, ◌||◌, List, [], ◌∷◌, length, Option, Some, None, is_none, is_some, option_and_then}
 use Rattle.std.specs.List.{list_any}
 use Rattle.std.specs.Option.{option_map, option_map_or}
 use Rattle.un_schema.specs.Catalog.{Catalog, kind_at, place_of}

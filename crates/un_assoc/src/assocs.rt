@@ -1,9 +1,9 @@
 //! The associations and controllers, and what is asked of them.
-ghost use Rattle.std.specs.Prelude.{◌≡◌, ◌≢◌, ◌<◌, ◌==◌, not, ◌++◌, ◌∷◌, [], filter, find, length, slice_get, All, IsTrue, Some, None, IfOk};
+ghost use Rattle.std.specs.Prelude.{◌≡◌, ◌≢◌, ◌<◌, ◌==◌, not, ◌++◌, ◌∷◌, [], filter, find, length, map, slice_get, All, IsTrue, Some, None, IfOk};
 ghost use Rattle.std.specs.List.{list_any};
 ghost use Rattle.std.specs.BTreeSet.{insert_key};
 ghost use Rattle.std.specs.Option.{option_copied};
-ghost use Rattle.un_defs.specs.Features.{association, associations_of};
+ghost use Rattle.un_defs.specs.Features.{association, associations_of, controllers_of};
 ghost use Rattle.un_defs.specs.Star.{is_containment, controller_at};
 ghost use Rattle.un_defs.specs.Orders.{same_port};
 ghost use Rattle.un_defs.specs.Result.{controller_cmp};
@@ -105,6 +105,18 @@ impl Assocs {
         ensures { option_copied result ≡ controller_at (only_links self.now) port }
     {
         self.controllers.get(port)
+    }
+
+    /// The ports of the controllers of a subnetwork, in their order. All controllers are looked at.
+    pub fn controllers_of(
+        &self,
+        alloc: Global,
+        tier: u8,
+        subnet: &str,
+    ) -> Result<Vec<Port>, AllocError>
+        ensures { IfOk result (λ ports. ports.items ≡ map (λ c. c.port) (controllers_of (only_links self.now) tier subnet.now)) }
+    {
+        self.controllers.of_subnet(alloc, tier, subnet)
     }
 
     /// Whether a controller sits on one of the terminals of a feature.

@@ -35,6 +35,7 @@ impl ById {
         }
     }
 
+    // The same associations. All pages are shared.
     pub(crate) fn share(&self) -> Result<ById, AllocError>
         ensures { IfOk result (λ m. m ≡ self.now) }
     {

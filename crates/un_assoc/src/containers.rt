@@ -40,6 +40,7 @@ impl Containers {
         }
     }
 
+    // The same containers. All pages are shared.
     pub(crate) fn share(&self) -> Result<Containers, AllocError>
         ensures { IfOk result (λ same. same ≡ self.now) }
     {

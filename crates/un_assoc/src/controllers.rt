@@ -1,8 +1,10 @@
 // The controllers by their ports.
-ghost use Rattle.std.specs.Prelude.{◌≡◌, ◌==◌, not, [], filter, find, length, None, IfOk};
+ghost use Rattle.std.specs.Prelude.{◌≡◌, ◌==◌, not, [], filter, find, length, map, None, IfOk};
 ghost use Rattle.std.specs.List.{list_any};
 ghost use Rattle.std.specs.Option.{option_copied};
 ghost use Rattle.std.specs.BTreeSet.{insert_key};
+ghost use Rattle.std.specs.Map.{values_of};
+ghost use Rattle.un_defs.specs.Features.{is_of_subnet};
 ghost use Rattle.un_defs.specs.Orders.{same_port};
 ghost use Rattle.un_defs.specs.Result.{controller_cmp};
 
@@ -30,7 +32,32 @@ impl Model for Controllers {
     ghost invariant = { λ m. AreKeyed (λ c. c.port) m.pairs };
 }
 
+fn is_of_subnet(controller: &Controller, tier: u8, subnet: &str) -> bool
+    ensures { result ≡ is_of_subnet tier subnet.now controller.now }
+{
+    controller.tier == tier && subnet == controller.subnet.text()
+}
+
+// The ports of those of a subnetwork, which are looked for among all.
+fn ports_of_subnet(
+    alloc: Global,
+    pairs: &Paged<Port, Controller>,
+    tier: u8,
+    subnet: &str,
+) -> Result<Vec<Port>, AllocError>
+    ensures { IfOk result (λ ports. ports.items ≡ map (λ c. c.port) (filter (is_of_subnet tier subnet.now) (values_of pairs.now))) }
+{
+    let mut ports = Vec::new(alloc);
+    for (_, controller) in pairs.range(Bound::Unbounded) {
+        if is_of_subnet(controller, tier, subnet) {
+            ports.push(controller.port)?;
+        }
+    }
+    Ok(ports)
+}
+
 impl Controllers {
+    // No controllers.
     pub(crate) fn new() -> Controllers
         ensures { result ≡ [] }
     {
@@ -39,6 +66,7 @@ impl Controllers {
         }
     }
 
+    // The same controllers. All pages are shared.
     pub(crate) fn share(&self) -> Result<Controllers, AllocError>
         ensures { IfOk result (λ m. m ≡ self.now) }
     {
@@ -46,6 +74,7 @@ impl Controllers {
         Ok(Controllers { pairs })
     }
 
+    // How many controllers there are.
     pub(crate) fn len(&self) -> u64
         ensures { result ≡ length self.now }
     {
@@ -70,6 +99,18 @@ impl Controllers {
             Some((port, _)) => port.feature == feature,
             None => false,
         }
+    }
+
+    // The ports of the controllers of a subnetwork, in their order.
+    pub(crate) fn of_subnet(
+        &self,
+        alloc: Global,
+        tier: u8,
+        subnet: &str,
+    ) -> Result<Vec<Port>, AllocError>
+        ensures { IfOk result (λ ports. ports.items ≡ map (λ c. c.port) (filter (is_of_subnet tier subnet.now) self.now)) }
+    {
+        ports_of_subnet(alloc, &self.pairs, tier, subnet)
     }
 
     // The controllers with one on a port that has none.

@@ -49,6 +49,7 @@ impl Ends {
         }
     }
 
+    // The same ends. All pages are shared.
     pub(crate) fn share(&self) -> Result<Ends, AllocError>
         ensures { IfOk result (λ ends. ends.pairs ≡ self.now.pairs) }
     {

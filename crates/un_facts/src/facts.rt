@@ -1,7 +1,7 @@
 //! The features, and the look-ups of them.
-ghost use Rattle.std.specs.Prelude.{◌≡◌, length, IfOk};
+ghost use Rattle.std.specs.Prelude.{◌≡◌, length, map, IfOk};
 ghost use Rattle.std.specs.Option.{option_copied};
-ghost use Rattle.un_defs.specs.Features.{row as row_with, associations_of};
+ghost use Rattle.un_defs.specs.Features.{row as row_with, associations_of, controllers_of};
 ghost use Rattle.un_defs.specs.Ports.{ports};
 ghost use Rattle.un_defs.specs.Star.{controller_at};
 ghost use Rattle.un_facts.specs.Known.{opening, settled_at};
@@ -116,6 +116,19 @@ impl Facts {
         ensures { option_copied result ≡ controller_at self.now.features port }
     {
         self.assocs.controller_at(port)
+    }
+
+    /// The ports of the controllers of a subnetwork, in their order. All controllers are looked at.
+    pub fn controllers_of(
+        &self,
+        alloc: Global,
+        tier: u8,
+        subnet: &str,
+    ) -> Result<Vec<Port>, AllocError>
+        ensures { IfOk result (λ ports. ports.items ≡ map (λ c. c.port) (controllers_of self.now.features tier subnet.now)) }
+    {
+        let ports = self.assocs.controllers_of(alloc, tier, subnet)?;
+        Ok(ports)
     }
 
     /// The features as stars are built of them.

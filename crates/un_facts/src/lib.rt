@@ -21,7 +21,7 @@
 //! # What it costs
 //!
 //! Each store takes time by the logarithm of what it holds, and the old features share with the new ones all pages but those on the way to
-//! what changed. A row that moves or becomes of another kind costs a look-up for each of its associations.
+//! what changed. A row that moves or becomes of another kind costs a step for each of its associations.
 #![tactic(auto)]
 
 pub mod edit;

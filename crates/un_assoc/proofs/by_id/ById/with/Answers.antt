@@ -1,4 +1,4 @@
-use Rattle.std.proofs.Common.{◌<◌, [], ◌∷◌, ◌++◌, All, refl, sym, ◌∙◌, ap, subst}
+use Rattle.std.proofs.Common.{◌<◌, [], ◌∷◌, ◌++◌, All, sym, ◌∙◌, ap, subst}
 use Rattle.std.specs.Map.{values_of}
 use Rattle.un_assoc.specs.Indexes.{AreKeyed}
 use Rattle.un_assoc.proofs.ByNumber.{by_id_keys, by_id_last}

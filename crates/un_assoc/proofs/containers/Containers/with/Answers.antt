@@ -1,5 +1,5 @@
 use Rattle.std.proofs.Common.{◌∙◌, sym}
-use Rattle.un_assoc.proofs.Holding.{content_more, none_more}
+use Rattle.un_assoc.proofs.Holding.{content_more}
 use Rattle.un_assoc.proofs.containers.Containers.with.Goals as goal
 
 pub returns : goal.returns

@@ -1,4 +1,4 @@
-use Rattle.std.proofs.Common.{◌≡◌, ◌∙◌, ap, sym, Some}
+use Rattle.std.proofs.Common.{◌∙◌, ap, sym, Some}
 use Rattle.std.specs.Option.{option_copied}
 use Rattle.un_pages.specs.Pairs.{from_on}
 use Rattle.un_assoc.proofs.Ending.{end_cmp, first_none, first_other, first_one}

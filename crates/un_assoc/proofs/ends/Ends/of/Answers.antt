@@ -1,4 +1,4 @@
-use Rattle.std.proofs.Common.{◌≡◌, ◌==◌, [], ◌∷◌, ◌++◌, ◌∙◌, ap, sym}
+use Rattle.std.proofs.Common.{◌==◌, [], ◌∷◌, ◌++◌, ◌∙◌, ap}
 use Rattle.std.specs.List.{take_while}
 use Rattle.std.specs.Map.{values_of}
 use Rattle.un_pages.specs.Pairs.{from_on}
