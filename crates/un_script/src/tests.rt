@@ -4,10 +4,6 @@ use std::test::Fail;
 use un_io::{MemSink, MemSource, Plan, Word};
 use un_steps::Steps;
 
-mod causes;
-mod edits;
-mod links;
-
 // More room than any output here needs.
 const ROOM: usize = 65_536;
 
@@ -305,10 +301,6 @@ fn pieces_of_every_size_read_the_same(rt: HostRuntime) -> Result<(), Fail> {
     Ok(())
 }
 
-// A schema with terminals and with lines that connect at any vertex.
-const WATER: &[u8] =
-    b"{\"attributes\":[\"diameter\",\"length\",\"shut\"],\"categories\":[\"isolating\"],\"configs\":[[\"valve2\",false,[\"a\",\"b\"],[[\"open\",[[1,2]]],[\"closed\",[]]]],[\"valve3\",false,[\"a\",\"b\",\"c\"],[[\"all\",[[1,2],[1,3],[2,3]]],[\"1-2\",[[1,2]]],[\"none\",[]]]],[\"pump2\",true,[\"in\",\"out\"],[[\"run\",[[1,2]]],[\"stop\",[]]]]],\"kinds\":[[\"joint\",\"junction\",1,1,\"\",\"\",[],false],[\"main\",\"line\",1,1,\"end\",\"\",[],false],[\"feeder\",\"line\",1,2,\"any\",\"\",[],false],[\"valve\",\"device\",1,1,\"\",\"valve2\",[\"isolating\"],false],[\"tee\",\"device\",1,2,\"\",\"valve3\",[],false],[\"pump\",\"device\",2,1,\"\",\"pump2\",[],true],[\"vault\",\"assembly\",1,1,\"\",\"\",[],false],[\"bank\",\"structure\",1,1,\"\",\"\",[],false]],\"rules\":[[\"je\",\"joint\",0,\"main\"],[\"je\",\"joint\",0,\"feeder\"],[\"je\",\"valve\",0,\"main\"],[\"je\",\"tee\",0,\"main\"],[\"je\",\"pump\",0,\"main\"],[\"jj\",\"joint\",0,\"joint\",0],[\"c\",\"vault\",\"valve\"],[\"s\",\"bank\",\"main\"]],\"schema\":1,\"tiers\":[[\"zone\",[\"eq\",\"shut\",1],false]]}\n";
-
 // The schema with joints and pipes.
 const PIPES: &[u8] = b"{\"schema\":0}\n";
 
@@ -316,104 +308,6 @@ const PIPES: &[u8] = b"{\"schema\":0}\n";
 fn replies(alloc: Global, schema: &[u8], lines: &[u8], output: &[u8]) -> Result<bool, AllocError> {
     let input = joined(alloc, &[schema, lines])?;
     gives(alloc, input.as_slice(), 0, output)
-}
-
-#[test]
-fn both_modes_before_and_after_a_validation(rt: HostRuntime) -> Result<(), Fail> {
-    let lines = b"{\"do\":\"insert\",\"kind\":\"joint\",\"points\":[[0,0,0]]}
-{\"do\":\"insert\",\"kind\":\"pipe\",\"points\":[[0,0,0],[10,0,0]]}
-{\"ask\":\"trace\",\"type\":\"connected\",\"starts\":[[1,1]]}
-{\"ask\":\"trace\",\"type\":\"connected\",\"starts\":[[1,1]],\"consistent\":false}
-{\"do\":\"validate\",\"extent\":[0,0,0,0]}
-{\"ask\":\"trace\",\"type\":\"connected\",\"starts\":[[1,1]]}\n";
-    let output = b"{\"areas\":[1,1],\"id\":1,\"ok\":\"insert\",\"version\":1}
-{\"areas\":[2,1],\"id\":2,\"ok\":\"insert\",\"version\":2}
-{\"area\":1,\"error\":43,\"feature\":1,\"name\":\"DirtyGround\",\"port\":1,\"version\":2}
-{\"containers\":[],\"content\":[],\"features\":[[1,[1]]],\"functions\":[],\"ok\":\"connected\",\"structures\":[],\"version\":2}
-{\"cleared\":2,\"errors\":0,\"ok\":\"validate\",\"version\":3}
-{\"containers\":[],\"content\":[],\"features\":[[1,[1]],[2,[0,1]]],\"functions\":[],\"ok\":\"connected\",\"structures\":[],\"version\":3}\n";
-    assert!(rt; replies(rt.alloc(), PIPES, lines, output)?);
-    Ok(())
-}
-
-#[test]
-fn stacked_joints_are_errors_and_not_linked(rt: HostRuntime) -> Result<(), Fail> {
-    let lines = b"{\"do\":\"insert\",\"kind\":\"joint\",\"points\":[[0,0,0]]}
-{\"do\":\"insert\",\"kind\":\"joint\",\"points\":[[0,0,0]]}
-{\"do\":\"insert\",\"kind\":\"pipe\",\"points\":[[0,0,0],[10,0,0]]}
-{\"do\":\"validate\",\"extent\":[0,0,10,0]}
-{\"ask\":\"errors\",\"extent\":[0,0,10,0]}
-{\"ask\":\"trace\",\"type\":\"connected\",\"starts\":[[3,0]]}\n";
-    let output = b"{\"areas\":[1,1],\"id\":1,\"ok\":\"insert\",\"version\":1}
-{\"areas\":[2,1],\"id\":2,\"ok\":\"insert\",\"version\":2}
-{\"areas\":[3,1],\"id\":3,\"ok\":\"insert\",\"version\":3}
-{\"cleared\":3,\"errors\":2,\"ok\":\"validate\",\"version\":4}
-{\"errors\":[[0,0,0,\"Stacked\",1,1,0],[0,0,0,\"Stacked\",2,1,0]],\"ok\":\"errors\",\"version\":4}
-{\"containers\":[],\"content\":[],\"features\":[[3,[0,1]]],\"functions\":[],\"ok\":\"connected\",\"structures\":[],\"version\":4}\n";
-    assert!(rt; replies(rt.alloc(), PIPES, lines, output)?);
-    Ok(())
-}
-
-#[test]
-fn an_inner_vertex_connects_by_the_policy_of_its_kind(rt: HostRuntime) -> Result<(), Fail> {
-    let lines = b"{\"do\":\"insert\",\"kind\":\"joint\",\"points\":[[5,0,0]]}
-{\"do\":\"insert\",\"kind\":\"main\",\"points\":[[0,0,0],[5,0,0],[10,0,0]]}
-{\"do\":\"insert\",\"kind\":\"feeder\",\"points\":[[5,5,0],[5,0,0],[5,-5,0]]}
-{\"do\":\"validate\",\"extent\":[-10,-10,10,10]}
-{\"ask\":\"trace\",\"type\":\"connected\",\"starts\":[[1,1]]}\n";
-    let output = b"{\"areas\":[1,1],\"id\":1,\"ok\":\"insert\",\"version\":1}
-{\"areas\":[2,1],\"id\":2,\"ok\":\"insert\",\"version\":2}
-{\"areas\":[3,1],\"id\":3,\"ok\":\"insert\",\"version\":3}
-{\"cleared\":3,\"errors\":0,\"ok\":\"validate\",\"version\":4}
-{\"containers\":[],\"content\":[],\"features\":[[1,[1]],[3,[0,1,2]]],\"functions\":[],\"ok\":\"connected\",\"structures\":[],\"version\":4}\n";
-    assert!(rt; replies(rt.alloc(), WATER, lines, output)?);
-    Ok(())
-}
-
-#[test]
-fn another_height_is_another_point(rt: HostRuntime) -> Result<(), Fail> {
-    let lines = b"{\"do\":\"insert\",\"kind\":\"joint\",\"points\":[[0,0,1]]}
-{\"do\":\"insert\",\"kind\":\"pipe\",\"points\":[[0,0,0],[10,0,0]]}
-{\"do\":\"validate\",\"extent\":[0,0,10,0]}
-{\"ask\":\"trace\",\"type\":\"connected\",\"starts\":[[1,1]]}\n";
-    let output = b"{\"areas\":[1,1],\"id\":1,\"ok\":\"insert\",\"version\":1}
-{\"areas\":[2,1],\"id\":2,\"ok\":\"insert\",\"version\":2}
-{\"cleared\":2,\"errors\":0,\"ok\":\"validate\",\"version\":3}
-{\"containers\":[],\"content\":[],\"features\":[[1,[1]]],\"functions\":[],\"ok\":\"connected\",\"structures\":[],\"version\":3}\n";
-    assert!(rt; replies(rt.alloc(), PIPES, lines, output)?);
-    Ok(())
-}
-
-#[test]
-fn a_shared_point_stays_dirty(rt: HostRuntime) -> Result<(), Fail> {
-    let lines = b"{\"do\":\"insert\",\"kind\":\"pipe\",\"points\":[[0,0,0],[10,0,0]]}
-{\"do\":\"insert\",\"kind\":\"joint\",\"points\":[[10,0,0]]}
-{\"do\":\"validate\",\"extent\":[0,0,5,0]}
-{\"ask\":\"trace\",\"type\":\"connected\",\"starts\":[[1,0]]}
-{\"ask\":\"trace\",\"type\":\"connected\",\"starts\":[[1,0]],\"consistent\":false}\n";
-    let output = b"{\"areas\":[1,1],\"id\":1,\"ok\":\"insert\",\"version\":1}
-{\"areas\":[2,1],\"id\":2,\"ok\":\"insert\",\"version\":2}
-{\"cleared\":1,\"errors\":0,\"ok\":\"validate\",\"version\":3}
-{\"area\":2,\"error\":43,\"feature\":1,\"name\":\"DirtyGround\",\"port\":1,\"version\":3}
-{\"containers\":[],\"content\":[],\"features\":[[1,[0,1]],[2,[1]]],\"functions\":[],\"ok\":\"connected\",\"structures\":[],\"version\":3}\n";
-    assert!(rt; replies(rt.alloc(), PIPES, lines, output)?);
-    Ok(())
-}
-
-#[test]
-fn terminals_that_are_not_chosen_are_errors(rt: HostRuntime) -> Result<(), Fail> {
-    let lines = b"{\"do\":\"insert\",\"kind\":\"tee\",\"points\":[[0,0,0]]}
-{\"do\":\"insert\",\"kind\":\"main\",\"points\":[[0,0,0],[10,0,0]]}
-{\"do\":\"insert\",\"kind\":\"feeder\",\"points\":[[0,5,0],[0,0,0],[0,-5,0]]}
-{\"do\":\"validate\",\"extent\":[0,0,0,0]}
-{\"ask\":\"errors\",\"extent\":[0,0,0,0]}\n";
-    let output = b"{\"areas\":[1,1],\"id\":1,\"ok\":\"insert\",\"version\":1}
-{\"areas\":[2,1],\"id\":2,\"ok\":\"insert\",\"version\":2}
-{\"areas\":[3,1],\"id\":3,\"ok\":\"insert\",\"version\":3}
-{\"cleared\":3,\"errors\":2,\"ok\":\"validate\",\"version\":4}
-{\"errors\":[[0,0,0,\"BadTerminal\",2,0,0],[0,0,0,\"MidspanTerminal\",3,1,0]],\"ok\":\"errors\",\"version\":4}\n";
-    assert!(rt; replies(rt.alloc(), WATER, lines, output)?);
-    Ok(())
 }
 
 #[test]
@@ -427,24 +321,5 @@ fn a_feature_is_told_as_it_stands(rt: HostRuntime) -> Result<(), Fail> {
 {\"error\":10,\"id\":2,\"name\":\"NoSuchFeature\",\"version\":1}
 {\"error\":31,\"latest\":1,\"name\":\"Ahead\",\"seen\":2}\n";
     assert!(rt; replies(rt.alloc(), PIPES, lines, output)?);
-    Ok(())
-}
-
-// A schema with a valve, and with attributes that do not stand in byte order.
-const VALVES: &[u8] =
-    b"{\"schema\":1,\"attributes\":[\"shut\",\"Width\",\"length\"],\"categories\":[],\"configs\":[[\"valve2\",false,[\"in\",\"out\"],[[\"open\",[[1,2]]],[\"closed\",[]]]]],\"kinds\":[[\"valve\",\"device\",1,1,\"\",\"valve2\",[],false],[\"main\",\"line\",1,1,\"end\",\"\",[],false]],\"rules\":[[\"je\",\"valve\",0,\"main\"]],\"tiers\":[]}\n";
-
-#[test]
-fn a_feature_is_told_with_the_names_of_its_schema(rt: HostRuntime) -> Result<(), Fail> {
-    let lines =
-        b"{\"do\":\"insert\",\"kind\":\"valve\",\"points\":[[0,0,0]],\"attrs\":{\"length\":3,\"shut\":1,\"Width\":-7},\"note\":\"north gate\"}
-{\"do\":\"insert\",\"kind\":\"main\",\"points\":[[0,0,0],[10,0,5]],\"attrs\":{\"length\":10},\"flow\":\"with\",\"ends\":[2,0]}
-{\"ask\":\"feature\",\"id\":1}
-{\"ask\":\"feature\",\"id\":2}\n";
-    let output = b"{\"areas\":[1,1],\"id\":1,\"ok\":\"insert\",\"version\":1}
-{\"areas\":[2,1],\"id\":2,\"ok\":\"insert\",\"version\":2}
-{\"attrs\":{\"Width\":-7,\"length\":3,\"shut\":1},\"base\":1,\"ends\":[0,0],\"flow\":\"both\",\"id\":1,\"kind\":\"valve\",\"note\":\"north gate\",\"ok\":\"feature\",\"path\":\"open\",\"points\":[[0,0,0]],\"version\":2}
-{\"attrs\":{\"length\":10},\"base\":2,\"ends\":[2,0],\"flow\":\"with\",\"id\":2,\"kind\":\"main\",\"note\":\"\",\"ok\":\"feature\",\"path\":\"\",\"points\":[[0,0,0],[10,0,5]],\"version\":2}\n";
-    assert!(rt; replies(rt.alloc(), VALVES, lines, output)?);
     Ok(())
 }
