@@ -36,12 +36,14 @@
 //! takes n log n comparisons.
 #![tactic(auto)]
 
+pub mod barriers;
 mod dirt;
 mod entries;
 mod found;
 pub mod walk;
 mod ways;
 
+pub use barriers::entry_unless_barrier;
 pub use walk::{Reached, reach};
 
 #[cfg(test)]
