@@ -1,14 +1,31 @@
+ghost use Rattle.std.specs.Prelude.{◌<◌};
+
 use super::*;
 use std::alloc::{AllocError, Global};
 use std::sync::Wait;
-use std::test::Fail;
-use un_io::{MemLink, MemSink, MemSource, Plan};
+use un_io::{Link, MemLink, MemSink, MemSource, Plan};
 
 mod heads;
+mod hostile;
+mod pipelined;
+mod responses;
 mod routes;
+mod sockets;
 
 fn plan(alloc: Global, cuts: &[usize], failing: &[usize]) -> Result<Plan, AllocError> {
     Ok(Plan::new(cuts.to_vec(alloc)?, failing.to_vec(alloc)?))
+}
+
+// A link that gives the input in these cuts, and takes nothing. The reads at the calls `failing` fail.
+fn link_over(
+    alloc: Global,
+    input: &[u8],
+    cuts: &[usize],
+    failing: &[usize],
+) -> Result<MemLink, AllocError> {
+    let source = MemSource::new(input.to_vec(alloc)?, plan(alloc, cuts, failing)?);
+    let sink = MemSink::new(alloc, 0, plan(alloc, &[], &[])?)?;
+    Ok(MemLink::new(source, sink))
 }
 
 // A line for a request: its method, its path, its body, and whether the link closes after the response.
@@ -24,21 +41,16 @@ fn put_request(lines: &mut Vec<u8>, inbox: &Inbox, head: Head) -> Result<(), All
     lines.extend_from_slice(b"\n")
 }
 
-// The lines of the requests in the input, and how they end.
-fn requests<R: Wait>(
+// The lines of a link's requests, and how they end.
+fn requests_of<R: Wait, X: Link>(
     rt: &R,
     alloc: Global,
-    input: &[u8],
-    cuts: &[usize],
-    failing: &[usize],
+    link: &mut X,
 ) -> Result<(Vec<u8>, Next), AllocError> {
-    let source = MemSource::new(input.to_vec(alloc)?, plan(alloc, cuts, failing)?);
-    let sink = MemSink::new(alloc, 0, plan(alloc, &[], &[])?)?;
-    let mut link = MemLink::new(source, sink);
     let mut inbox = Inbox::new(alloc)?;
     let mut lines = Vec::new(alloc);
     for _ in 0..9 {
-        match next_request(rt, &mut inbox, &mut link) {
+        match next_request(rt, &mut inbox, link) {
             Next::Request(head) => put_request(&mut lines, &inbox, head)?,
             end => return Ok((lines, end)),
         }
@@ -46,49 +58,66 @@ fn requests<R: Wait>(
     Ok((lines, Next::ReadFault))
 }
 
-// Whether the input is requests with these lines, and ends so.
+/// How a link gives its input: the sizes of its reads, and which of them fail.
+#[derive(Clone, Copy)]
+struct Reads<'r> {
+    cuts: &'r [usize],
+    failing: &'r [usize],
+}
+
+// The input at once.
+const WHOLE: Reads<'static> = Reads {
+    cuts: &[],
+    failing: &[],
+};
+
+/// The step between the cuts of a long input. It comes to the byte 8,191.
+const LONG_STEP: usize = 63;
+
+// Whether the input, read so, is requests with these lines, and ends so.
 fn gives<R: Wait>(
+    rt: &R,
+    alloc: Global,
+    input: &[u8],
+    reads: Reads,
+    lines: &[u8],
+    end: Next,
+) -> Result<bool, AllocError> {
+    let mut link = link_over(alloc, input, reads.cuts, reads.failing)?;
+    let (found, last) = requests_of(rt, alloc, &mut link)?;
+    Ok(found.as_slice() == lines && last == end)
+}
+
+// Whether it is so in one read, and also where the first read ends after the first byte or any `step` bytes later.
+fn gives_cut_by<R: Wait>(
+    rt: &R,
+    alloc: Global,
+    input: &[u8],
+    step: usize,
+    lines: &[u8],
+    end: Next,
+) -> Result<bool, AllocError>
+    requires { 0 < step }
+{
+    for cut in (1..=input.len()).step_by(step) {
+        let reads = Reads {
+            cuts: &[cut],
+            failing: &[],
+        };
+        if !gives(rt, alloc, input, reads, lines, end)? {
+            return Ok(false);
+        }
+    }
+    gives(rt, alloc, input, WHOLE, lines, end)
+}
+
+// Whether it is so however the first read cuts the input.
+fn gives_however_cut<R: Wait>(
     rt: &R,
     alloc: Global,
     input: &[u8],
     lines: &[u8],
     end: Next,
 ) -> Result<bool, AllocError> {
-    let (found, last) = requests(rt, alloc, input, &[], &[])?;
-    Ok(found.as_slice() == lines && last == end)
-}
-
-// Two requests, and a third whose body is cut after 5 of its 9 bytes.
-const THREE: &[u8] =
-    b"GET /version HTTP/1.1\r\nHost: a\r\n\r\nGET /version HTTP/1.1\r\nHost: a\r\n\r\nPOST /commands HTTP/1.1\r\nContent-Length: 9\r\n\r\n{\"do\"";
-
-const TWO_LINES: &[u8] = b"GET /version \nGET /version \n";
-
-#[test]
-fn requests_do_not_depend_on_how_reads_cut_them(rt: HostRuntime) -> Result<(), Fail> {
-    let ones = vec![in rt.alloc(); 1usize; THREE.len()]?;
-    let (lines, end) = requests(&rt, rt.alloc(), THREE, &ones, &[])?;
-    assert_eq!(rt; lines.as_slice(), TWO_LINES);
-    assert_eq!(rt; end, Next::Cut { bytes: 51 });
-    for cut in 0..THREE.len() {
-        let (lines, end) = requests(&rt, rt.alloc(), THREE, &[cut], &[])?;
-        assert_eq!(rt; lines.as_slice(), TWO_LINES);
-        assert_eq!(rt; end, Next::Cut { bytes: 51 });
-    }
-    Ok(())
-}
-
-#[test]
-fn requests_before_a_failing_read_are_given(rt: HostRuntime) -> Result<(), Fail> {
-    for (call, lines) in [
-        (0, b"".as_slice()),
-        (1, b"GET /version \n".as_slice()),
-        (2, TWO_LINES),
-        (3, TWO_LINES),
-    ] {
-        let (found, end) = requests(&rt, rt.alloc(), THREE, &[34, 34, 51], &[call])?;
-        assert_eq!(rt; found.as_slice(), lines);
-        assert_eq!(rt; end, Next::ReadFault);
-    }
-    Ok(())
+    gives_cut_by(rt, alloc, input, 1, lines, end)
 }

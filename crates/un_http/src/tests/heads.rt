@@ -1,153 +1,143 @@
-//! Heads of requests, what they say, and the checks that they fail; heads of responses.
-use super::gives;
-use crate::{Check, Next, print_head};
+//! Heads that pass all checks, and what they say.
+use super::{LONG_STEP, WHOLE, gives, gives_cut_by, gives_however_cut};
+use crate::Next;
 use std::alloc::{AllocError, Global};
+use std::sync::Wait;
 use std::test::Fail;
 
-#[test]
-fn a_head_ends_with_an_empty_line_and_says_whether_the_link_closes(
-    rt: HostRuntime,
-) -> Result<(), Fail> {
-    for (input, lines) in [
-        (b"".as_slice(), b"".as_slice()),
-        (b"\r\n\n\r".as_slice(), b"".as_slice()),
-        (
-            b"\n\r\n\nGET /a?b HTTP/1.0\n\n\r\n".as_slice(),
-            b"GET /a  close\n".as_slice(),
-        ),
-        (
-            b"GET /version HTTP/1.0\r\n\r\n".as_slice(),
-            b"GET /version  close\n".as_slice(),
-        ),
-        (
-            b"GET /a HTTP/1.1\r\nConnection: a, \tCLOSE ,b\r\n\r\n".as_slice(),
-            b"GET /a  close\n".as_slice(),
-        ),
-        (
-            b"GET /a HTTP/1.1\r\nConnection: closed\r\n\r\n".as_slice(),
-            b"GET /a \n".as_slice(),
-        ),
-    ] {
-        assert!(rt; gives(&rt, rt.alloc(), input, lines, Next::Closed)?);
+// Inputs, and the lines of their requests. After these the input ends with no byte of another.
+const REQUESTS: [(&str, &str); 18] = [
+    ("", ""),
+    ("\r\n\n\r", ""),
+    ("\n\r\n\nGET /a?b HTTP/1.0\n\n\r\n", "GET /a  close\n"),
+    ("GET /a?b?c HTTP/1.1\r\n\r\n", "GET /a \n"),
+    ("GET ? HTTP/1.1\r\n\r\n", "GET  \n"),
+    ("post /q HTTP/1.1\r\n\r\n", "post /q \n"),
+    ("GET /version HTTP/1.0\r\n\r\n", "GET /version  close\n"),
+    (
+        "GET /a HTTP/1.1\r\nConnection: a, \tCLOSE ,b\r\n\r\n",
+        "GET /a  close\n",
+    ),
+    (
+        "GET /a HTTP/1.1\r\nConnection: a\r\nCONNECTION:close\r\n\r\n",
+        "GET /a  close\n",
+    ),
+    ("GET /a HTTP/1.1\r\nConnection: closed\r\n\r\n", "GET /a \n"),
+    (
+        "GET /a HTTP/1.1\r\nConnection: a close\r\n\r\n",
+        "GET /a \n",
+    ),
+    (
+        "GET /q HTTP/1.1\r\nContent-Length: 2\r\n\r\nab",
+        "GET /q ab\n",
+    ),
+    (
+        "POST /q HTTP/1.1\r\nContent-Length: 1\r\nContent-Length: 1\r\n\r\na",
+        "POST /q a\n",
+    ),
+    (
+        "POST /q HTTP/1.1\r\nContent-Length: 01\r\nContent-Length: 1\r\n\r\na",
+        "POST /q a\n",
+    ),
+    (
+        "POST /q HTTP/1.1\r\nContent-Length: 00000000000000000000000000000001\r\n\r\na",
+        "POST /q a\n",
+    ),
+    (
+        "POST /q HTTP/1.1\r\nContent-Length: 0\r\n\r\nGET /a HTTP/1.1\r\n\r\n",
+        "POST /q \nGET /a \n",
+    ),
+    (
+        "POST /q HTTP/1.1\r\nContent-Length: 6\r\n\r\n\0\r\n\r\n\0GET /a HTTP/1.1\r\n\r\n",
+        "POST /q \0\r\n\r\n\0\nGET /a \n",
+    ),
+    (
+        "POST /q HTTP/1.1\r\nContent-Length:\t 1 \r\n\r\naPOST /q HTTP/1.0\r\nContent-Length: 2\r\n\r\nbc\r\n",
+        "POST /q a\nPOST /q bc close\n",
+    ),
+];
+
+// The first of the inputs that doesn't give its lines, however it is cut.
+fn first_other<R: Wait>(rt: &R, alloc: Global) -> Result<Option<usize>, AllocError> {
+    for index in 0..REQUESTS.len() {
+        let (input, lines) = REQUESTS[index];
+        if !gives_however_cut(rt, alloc, input.as_bytes(), lines.as_bytes(), Next::Closed)? {
+            return Ok(Some(index));
+        }
     }
-    Ok(())
+    Ok(None)
 }
 
 #[test]
-fn a_head_fails_the_first_check_that_it_can(rt: HostRuntime) -> Result<(), Fail> {
-    for (input, check) in [
-        (b"GET  /a HTTP/1.1\r\n\r\n".as_slice(), Check::BadHead),
-        (b"GET /a HTTP/2\r\n\r\n".as_slice(), Check::BadHead),
-        (
-            b"GET /a HTTP/1.1\r\nTransfer-Encoding: chunked\r\n\r\n".as_slice(),
-            Check::NotSupported,
-        ),
-        (
-            b"GET /a HTTP/1.1\r\nexpect: 100-continue\r\nContent-Length: x\r\n\r\n".as_slice(),
-            Check::NotSupported,
-        ),
-        (
-            b"POST /q HTTP/1.1\r\nContent-Length: 1\r\nContent-Length: 2\r\n\r\n12".as_slice(),
-            Check::BadHead,
-        ),
-        (
-            b"POST /q HTTP/1.1\r\nContent-Length: +1\r\n\r\n1".as_slice(),
-            Check::BadHead,
-        ),
-        (
-            b"POST /q HTTP/1.1\r\ncontent-LENGTH: 99999999999999999999999\r\nContent-Length: 99999999999999999999998\r\n\r\n".as_slice(),
-            Check::BadHead,
-        ),
-        (
-            b"GET /q HTTP/1.1\r\nContent-Length: 1048577\r\n\r\n".as_slice(),
-            Check::LongBody,
-        ),
-        (
-            b"POST /queries HTTP/1.1\r\n\r\n".as_slice(),
-            Check::NoLength,
-        ),
-    ] {
-        assert!(rt; gives(&rt, rt.alloc(), input, b"", Next::Failed(check))?);
-    }
+fn heads_say_where_a_body_ends_and_whether_the_link_closes(rt: HostRuntime) -> Result<(), Fail> {
+    assert_eq!(rt; first_other(&rt, rt.alloc())?, None);
     Ok(())
 }
 
-#[test]
-fn a_body_has_the_length_of_its_head(rt: HostRuntime) -> Result<(), Fail> {
-    for (input, lines, end) in [
-        (
-            b"POST /q HTTP/1.1\r\nContent-Length: 01\r\nContent-Length: 1\r\n\r\n1".as_slice(),
-            b"POST /q 1\n".as_slice(),
-            Next::Closed,
-        ),
-        (
-            b"GET /q HTTP/1.1\r\nContent-Length: 2\r\n\r\nab".as_slice(),
-            b"GET /q ab\n".as_slice(),
-            Next::Closed,
-        ),
-        (
-            b"POST /q HTTP/1.1\r\nContent-Length: 1048576\r\n\r\n".as_slice(),
-            b"".as_slice(),
-            Next::Cut { bytes: 45 },
-        ),
-    ] {
-        assert!(rt; gives(&rt, rt.alloc(), input, lines, end)?);
-    }
-    Ok(())
-}
-
-// A request with so many headers.
-fn with_headers(alloc: Global, count: usize) -> Result<Vec<u8>, AllocError> {
-    let mut input = Vec::from_slice(alloc, b"GET /version HTTP/1.1\r\n")?;
+// These first bytes, so many bytes `x`, and these last ones.
+fn stretched(alloc: Global, first: &str, count: usize, last: &str) -> Result<Vec<u8>, AllocError> {
+    let mut input = Vec::from_slice(alloc, first.as_bytes())?;
     for _ in 0..count {
+        input.push(b'x')?;
+    }
+    input.extend_from_slice(last.as_bytes())?;
+    Ok(input)
+}
+
+// A head of 8,192 bytes.
+fn gives_long_block<R: Wait>(rt: &R, alloc: Global) -> Result<bool, AllocError> {
+    let block = stretched(alloc, "GET /a HTTP/1.1\r\nH: ", 8_168, "\r\n\r\n")?;
+    Ok(
+        block.len() == 8_192
+            && gives_cut_by(rt, alloc, &block, LONG_STEP, b"GET /a \n", Next::Closed)?,
+    )
+}
+
+// A request line of 8,000 bytes, and two ends of lines.
+fn gives_long_line<R: Wait>(rt: &R, alloc: Global) -> Result<bool, AllocError> {
+    let input = stretched(alloc, "GET /", 7_986, " HTTP/1.1\r\n\r\n")?;
+    let lines = stretched(alloc, "GET /", 7_986, " \n")?;
+    Ok(input.len() == 8_004 && gives_cut_by(rt, alloc, &input, LONG_STEP, &lines, Next::Closed)?)
+}
+
+// A head with 32 headers.
+fn gives_many_headers<R: Wait>(rt: &R, alloc: Global) -> Result<bool, AllocError> {
+    let mut input = Vec::from_slice(alloc, b"GET /a HTTP/1.1\r\n")?;
+    for _ in 0..32 {
         input.extend_from_slice(b"H: x\r\n")?;
     }
     input.extend_from_slice(b"\r\n")?;
-    Ok(input)
+    gives_however_cut(rt, alloc, &input, b"GET /a \n", Next::Closed)
 }
 
-// The first bytes of a block that doesn't end.
-fn endless(alloc: Global, length: usize) -> Result<Vec<u8>, AllocError> {
-    let mut input = Vec::from_slice(alloc, b"GET /version HTTP/1.1\r\nH: ")?;
-    input.resize(length, b'x')?;
-    Ok(input)
+const LONG_BODY: &str = "POST /q HTTP/1.1\r\nContent-Length: 1048576\r\n\r\n";
+
+// A body of 1,048,576 bytes, and one byte less of it.
+fn gives_long_body<R: Wait>(rt: &R, alloc: Global) -> Result<bool, AllocError> {
+    let short = stretched(alloc, LONG_BODY, 1_048_575, "")?;
+    let whole = stretched(alloc, LONG_BODY, 1_048_576, "")?;
+    let lines = stretched(alloc, "POST /q ", 1_048_576, "\n")?;
+    Ok(
+        gives(rt, alloc, &whole, WHOLE, &lines, Next::Closed)?
+            && gives(
+                rt,
+                alloc,
+                &short,
+                WHOLE,
+                b"",
+                Next::Cut { bytes: 1_048_620 },
+            )?,
+    )
 }
 
 #[test]
-fn a_block_has_at_most_32_headers_and_8192_bytes(rt: HostRuntime) -> Result<(), Fail> {
+fn a_request_may_be_as_long_as_the_limits(rt: HostRuntime) -> Result<(), Fail> {
     let alloc = rt.alloc();
-    let whole = b"GET /version \n";
-    let many = Next::Failed(Check::ManyHeaders);
-    assert!(rt; gives(&rt, alloc, &with_headers(alloc, 32)?, whole, Next::Closed)?);
-    assert!(rt; gives(&rt, alloc, &with_headers(alloc, 33)?, b"", many)?);
-    assert!(rt;
-        gives(
-            &rt,
-            alloc,
-            &endless(alloc, 8_191)?,
-            b"",
-            Next::Cut { bytes: 8_191 }
-        )?
+    let lines = (gives_long_block(&rt, alloc)?, gives_long_line(&rt, alloc)?);
+    let parts = (
+        gives_many_headers(&rt, alloc)?,
+        gives_long_body(&rt, alloc)?,
     );
-    assert!(rt; gives(&rt, alloc, &endless(alloc, 8_192)?, b"", many)?);
-    Ok(())
-}
-
-#[test]
-fn the_head_of_a_response_is_printed(rt: HostRuntime) -> Result<(), Fail> {
-    let mut refused = Vec::with_capacity(rt.alloc(), 256)?;
-    assert_eq!(rt; refused.len(), 0);
-    print_head(411, 12, None, true, &mut refused);
-    assert_eq!(rt;
-        refused.as_slice(),
-        b"HTTP/1.1 411 Length Required\r\nContent-Type: application/json\r\nContent-Length: 12\r\nConnection: close\r\n\r\n".as_slice()
-    );
-    let mut allowed = Vec::with_capacity(rt.alloc(), 256)?;
-    assert_eq!(rt; allowed.len(), 0);
-    print_head(405, 12, Some(true), false, &mut allowed);
-    assert_eq!(rt;
-        allowed.as_slice(),
-        b"HTTP/1.1 405 Method Not Allowed\r\nContent-Type: application/json\r\nContent-Length: 12\r\nAllow: GET\r\n\r\n".as_slice()
-    );
+    assert!(rt; lines == (true, true) && parts == (true, true));
     Ok(())
 }
