@@ -26,3 +26,8 @@ subnetwork_row = row (codes "/subnetworks/" ++ param_token ∷ 47 ∷ param_toke
 
 abbrev pub table : RowsOf (RouteOf Kind)
 table = commands_row ∷ feature_row ∷ queries_row ∷ subnetwork_row ∷ version_row ∷ []
+
+-- the patterns of a router's routes as texts, in its order
+abbrev pub patterns : RowsOf (RouteOf Kind) → List (List ℕ)
+patterns [] = []
+patterns ((pattern, route) ∷ rest) = route.text ∷ patterns rest

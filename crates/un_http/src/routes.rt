@@ -1,7 +1,7 @@
 //! Finding the route of a path.
 //!
 //! The router says which kind of route a path may have; a feature's id and a subnetwork's names are then tested here.
-ghost use Rattle.std.specs.Prelude.{◌≡◌, true, ℕ, List, MatchOption, IfOk, false, ◌∷◌, ◌++◌, ◌+◌, ◌<◌, ◌≤◌, ◌==◌, length, take, drop};
+ghost use Rattle.std.specs.Prelude.{◌≡◌, true, ℕ, List, MatchOption, IfOk, false, [], ◌∷◌, ◌++◌, ◌+◌, ◌<◌, ◌≤◌, ◌==◌, length, take, drop, codes};
 ghost use Rattle.std.specs.List.{list_all, position_or_len};
 ghost use Rattle.un_http.specs.Head.{number};
 ghost use Rattle.un_http.specs.Routes.{IsRoute, Finds, is_name_byte, is_name, is_id, by_get};
@@ -13,6 +13,7 @@ use crate::number::{is_number, small_number};
 use crate::route::Route;
 use matchit::{InsertError, Router};
 use std::alloc::{AllocError, Global};
+use std::marker::Model;
 
 /// The greatest id of a feature.
 const MOST_ID: u64 = 9_007_199_254_740_991;
@@ -23,11 +24,21 @@ const MOST_NAME: usize = 32;
 /// Where the first name begins in a subnetwork's path.
 const FIRST_NAME: usize = b"/subnetworks/".len();
 
-/// The routes of the server, which are the same for all links.
+/// The routes of the server, which are the same for all links. Contracts see the patterns of their paths.
 #[derive(Drop)]
 pub struct Routes {
     router: Router<Kind>,
-    ghost table: { router ≡ table },
+}
+
+impl Model for Routes {
+    ghost use Rattle.std.specs.Prelude.{◌≡◌, ℕ, List};
+    ghost use Rattle.un_http.specs.Table.{table, patterns};
+
+    ghost Value = { List (List ℕ) };
+
+    ghost view = { λ r. patterns r.router };
+
+    ghost invariant = { λ r. r.router ≡ table };
 }
 
 // The router of all routes.
@@ -45,7 +56,10 @@ fn router(alloc: Global) -> Result<Router<Kind>, InsertError>
 
 impl Routes {
     /// The five routes.
-    pub fn new(alloc: Global) -> Result<Routes, AllocError> {
+    pub fn new(alloc: Global) -> Result<Routes, AllocError>
+        ensures { IfOk result (λ routes. routes ≡ codes "/commands" ∷ codes "/features/{id}" ∷ codes "/queries"
+            ∷ codes "/subnetworks/{tier}/{subnet}" ∷ codes "/version" ∷ []) }
+    {
         match router(alloc) {
             Ok(router) => Ok(Routes { router }),
             // No two of the patterns conflict, so only want of memory can refuse one.
