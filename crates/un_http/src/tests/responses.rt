@@ -8,6 +8,7 @@ use crate::{Check, Inbox, Next, Route, Routes, next_request, print_head};
 use std::alloc::{AllocError, Global};
 use std::sync::Wait;
 use std::test::Fail;
+use un_io::MemLink;
 
 fn put_response(
     alloc: Global,
@@ -58,38 +59,64 @@ fn refuse(alloc: Global, out: &mut Vec<u8>, check: Check) -> Result<(), AllocErr
     }
 }
 
+// Answers the next request of a link, and says how the requests end, if they do.
+fn answer_next<R: Wait>(
+    rt: &R,
+    alloc: Global,
+    routes: &Routes,
+    inbox: &mut Inbox,
+    link: &mut MemLink,
+    out: &mut Vec<u8>,
+) -> Result<Option<Next>, AllocError> {
+    match next_request(rt, inbox, link) {
+        Next::Request(head) => {
+            let route = routes.find(inbox.method(), inbox.path());
+            answer(alloc, out, route, head.close)?;
+            Ok(None)
+        }
+        Next::Failed(check) => {
+            refuse(alloc, out, check)?;
+            Ok(Some(Next::Failed(check)))
+        }
+        end => Ok(Some(end)),
+    }
+}
+
+// Answers at most nine requests of a link, and says how they end.
+fn answer_all<R: Wait>(
+    rt: &R,
+    alloc: Global,
+    link: &mut MemLink,
+    out: &mut Vec<u8>,
+) -> Result<Next, AllocError> {
+    let routes = Routes::new(alloc)?;
+    let mut inbox = Inbox::new(alloc)?;
+    for _ in 0..9 {
+        if let Some(end) = answer_next(rt, alloc, &routes, &mut inbox, link, out)? {
+            return Ok(end);
+        }
+    }
+    Ok(Next::ReadFault)
+}
+
 // The responses to the requests in the input, where the first read ends after `cut` bytes, and how the requests end.
 fn responses<R: Wait>(
     rt: &R,
     alloc: Global,
     input: &[u8],
     cut: usize,
-) -> Result<(Vec<u8>, Next), Fail> {
-    let routes = Routes::new(alloc)?;
+) -> Result<(Vec<u8>, Next), AllocError> {
     let mut link = link_over(alloc, input, &[cut], &[])?;
-    let mut inbox = Inbox::new(alloc)?;
     let mut out = Vec::new(alloc);
-    for _ in 0..9 {
-        match next_request(rt, &mut inbox, &mut link) {
-            Next::Request(head) => {
-                let route = routes.find(inbox.method(), inbox.path());
-                answer(alloc, &mut out, route, head.close)?;
-            }
-            Next::Failed(check) => {
-                refuse(alloc, &mut out, check)?;
-                return Ok((out, Next::Failed(check)));
-            }
-            end => return Ok((out, end)),
-        }
-    }
-    Ok((out, Next::ReadFault))
+    let end = answer_all(rt, alloc, &mut link, &mut out)?;
+    Ok((out, end))
 }
 
 const TWO_VERSIONS: &str =
     "HTTP/1.1 200 OK\r\nContent-Type: application/json\r\nContent-Length: 28\r\n\r\n{\"ok\":\"version\",\"version\":0}HTTP/1.1 200 OK\r\nContent-Type: application/json\r\nContent-Length: 28\r\n\r\n{\"ok\":\"version\",\"version\":0}";
 
 // The first cut at which the three requests are not answered by two versions and cut after 51 bytes.
-fn first_other_cut<R: Wait>(rt: &R, alloc: Global) -> Result<Option<usize>, Fail> {
+fn first_other_cut<R: Wait>(rt: &R, alloc: Global) -> Result<Option<usize>, AllocError> {
     for cut in 1..=THREE.len() {
         let (out, end) = responses(rt, alloc, THREE, cut)?;
         if out.as_slice() != TWO_VERSIONS.as_bytes() || end != (Next::Cut { bytes: 51 }) {
@@ -136,7 +163,7 @@ const BAD_HEADS: [(&str, &str); 8] = [
 ];
 
 // The first of the inputs that has another response.
-fn first_other<R: Wait>(rt: &R, alloc: Global) -> Result<Option<usize>, Fail> {
+fn first_other<R: Wait>(rt: &R, alloc: Global) -> Result<Option<usize>, AllocError> {
     for index in 0..BAD_HEADS.len() {
         let (input, response) = BAD_HEADS[index];
         let (out, _end) = responses(rt, alloc, input.as_bytes(), input.len())?;
@@ -148,7 +175,7 @@ fn first_other<R: Wait>(rt: &R, alloc: Global) -> Result<Option<usize>, Fail> {
 }
 
 // Whether the link goes on after a path that has no route, and after a method that its route doesn't take.
-fn goes_on<R: Wait>(rt: &R, alloc: Global) -> Result<bool, Fail> {
+fn goes_on<R: Wait>(rt: &R, alloc: Global) -> Result<bool, AllocError> {
     let input =
         b"GET /maps HTTP/1.1\r\n\r\nPOST /version HTTP/1.1\r\nContent-Length: 0\r\n\r\nPOST /queries HTTP/1.1\r\n\r\n";
     let (_out, end) = responses(rt, alloc, input, 22)?;

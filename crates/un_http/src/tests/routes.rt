@@ -50,10 +50,10 @@ const ROUTES: [(&str, &str, Route); 22] = [
 
 // The first method and path that have another route.
 fn first_other(routes: &Routes) -> Option<usize> {
-    for index in 0..ROUTES.len() {
-        let (method, path, route) = ROUTES[index];
+    for at in 0..ROUTES.len() {
+        let (method, path, route) = ROUTES[at];
         if routes.find(method.as_bytes(), path.as_bytes()) != route {
-            return Some(index);
+            return Some(at);
         }
     }
     None
