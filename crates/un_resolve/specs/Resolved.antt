@@ -1,0 +1,87 @@
+-- The trace that a request asks for, with its names looked up, or why there is none.
+use Rattle.std.specs.Prelude.{ℕ, Bool, false, not, ◌||◌, List, [], ◌∷◌, map, slice_get, Option, option_and_then}
+use Rattle.std.specs.Option.{option_map_or}
+use Rattle.un_conds.specs.Conditions.{Condition}
+use Rattle.un_conds.specs.Names.{place_of}
+use Rattle.un_schema.specs.Catalog.{Catalog}
+use Rattle.un_schema.specs.declared.place.Place.{Place}
+use Rattle.un_schema.specs.declared.place.Place.TheVariants as place
+use Rattle.un_tiers.specs.declared.tier.Tier.{Tier}
+use Rattle.un_tiers.specs.Raw.{resolves, barrier_from}
+use Rattle.un_defs.specs.declared.refusal.Refusal.{Refusal}
+use Rattle.un_defs.specs.declared.refusal.Refusal.TheVariants as refusal
+use Rattle.un_defs.specs.declared.walk.Barriers.{Barriers}
+use Rattle.un_defs.specs.Dues.{first_due, due_if}
+use Rattle.un_ask.specs.declared.trace.TraceAsk.{TraceAsk}
+use Rattle.un_ask.specs.declared.trace.NamedFunc.{NamedFunc}
+use Rattle.un_ask.specs.declared.trace.NamedFunc.TheVariants as named
+use Rattle.un_ask.specs.declared.typed.Func.{Func}
+use Rattle.un_ask.specs.declared.typed.Func.TheVariants as func
+use Rattle.un_ask.specs.declared.typed.TypedAsk.{TypedAsk}
+use Rattle.un_facts.specs.Known.{Known}
+use Rattle.un_resolve.specs.Kinds.{is_always_consistent, lacking}
+use Rattle.un_resolve.specs.Starts.{tier_of, start_nodes, starts_due}
+
+-- ---- conditions
+
+-- a condition by numbers, if one is given and its names are those of the schema
+abbrev pub condition_of : Catalog → Option (Condition (List ℕ)) → Option (Condition ℕ)
+condition_of S cond = barrier_from S.attributes S.categories cond
+
+-- a condition is given that has an unknown name, or is too deep or too large
+abbrev pub bad_condition : Catalog → Option (Condition (List ℕ)) → Place → Option Refusal
+bad_condition S cond place = due_if (not (resolves S.attributes S.categories cond)) (refusal.BadCondition place)
+
+abbrev pub conditions_due : Catalog → TraceAsk → Option Refusal
+conditions_due S ask = first_due (bad_condition S ask.isolators place.Isolators ∷ bad_condition S ask.barriers place.Barriers ∷ [])
+
+-- ---- the tier
+
+-- the tier with the number
+abbrev pub tier_at : List Tier → Option ℕ → Option Tier
+tier_at tiers tier = option_and_then (slice_get tiers) tier
+
+-- what bounds its subnetworks
+abbrev pub tier_barrier : List Tier → Option ℕ → Option (Condition ℕ)
+tier_barrier tiers tier = option_and_then (λ t. t.barrier) (tier_at tiers tier)
+
+-- whether controllers of one of its subnetworks may stand apart
+abbrev pub tier_disjoint : List Tier → Option ℕ → Bool
+tier_disjoint tiers tier = option_map_or (λ t. t.disjoint) (tier_at tiers tier) false
+
+-- ---- functions
+
+-- a function with its attribute by number; an unknown attribute is one that no feature has
+abbrev pub func_of : Catalog → NamedFunc → Func
+func_of S named.Count = func.Count
+func_of S (named.Sum name) = func.Sum (place_of name S.attributes)
+func_of S (named.Least name) = func.Least (place_of name S.attributes)
+func_of S (named.Greatest name) = func.Greatest (place_of name S.attributes)
+
+-- ---- the trace
+
+-- where its walks stop
+abbrev pub barriers_of : Known → TraceAsk → Barriers
+barriers_of K ask = record {
+  request = condition_of K.setup.schema ask.barriers;
+  of_tier = tier_barrier K.setup.tiers (tier_of K ask);
+  stops = ask.stops;
+  tier = tier_of K ask;
+  consistent = is_always_consistent ask.kind || ask.consistent;
+}
+
+abbrev pub resolved : Known → TraceAsk → TypedAsk
+resolved K ask = record {
+  kind = ask.kind;
+  starts = start_nodes K ask;
+  barriers = barriers_of K ask;
+  isolators = condition_of K.setup.schema ask.isolators;
+  subnet = ask.subnet;
+  disjoint = tier_disjoint K.setup.tiers (tier_of K ask);
+  include = ask.include;
+  functions = map (func_of K.setup.schema) ask.functions;
+}
+
+-- the first refusal that can be told before a walk: what the request lacks, and then what its names and ports do not name
+abbrev pub resolving_due : Known → TraceAsk → Option Refusal
+resolving_due K ask = first_due (lacking ask ∷ starts_due K ask ∷ conditions_due K.setup.schema ask ∷ [])

@@ -1,0 +1,26 @@
+//! Traces with their names looked up.
+//!
+//! # What is to be found
+//!
+//! A request gives a trace by names: of a tier, of a subnetwork, of the attributes and categories in its conditions, of the attributes in its
+//! functions; and it starts at ports of features, or at the controllers of a subnetwork. Asked for is the same trace by numbers, which starts
+//! at nodes, or the first refusal that can be told before any walk.
+//!
+//! # How it is found
+//!
+//! The causes are looked at in a fixed order, each over everything that can have it before the next one is: a member that the trace's kind
+//! needs ([`kinds`]); the features of the given ports; the tier; the controllers of the subnetwork; the given ports ([`starts`]); the condition
+//! for isolating devices, and the one for barriers ([`names`]). [`trace::resolve`] does this and builds the trace. A start stands at the
+//! place that its port has in the row now, so it may stand at a point whose star is older than the row.
+//!
+//! # What it costs
+//!
+//! A look-up of a row for each start, and for a subnetwork trace a pass over all controllers, of which there are at most 4,096.
+#![tactic(auto)]
+
+mod kinds;
+mod names;
+mod starts;
+pub mod trace;
+
+pub use trace::resolve;

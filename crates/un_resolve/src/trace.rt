@@ -1,0 +1,89 @@
+//! The call that looks up the names of a trace.
+
+ghost use Rattle.std.specs.Prelude.{◌≡◌, ◌≢◌, Some, None, IfOk, OnOk, IfErr};
+ghost use Rattle.un_defs.specs.declared.refusal.Refusal.TheVariants.{Memory};
+ghost use Rattle.un_resolve.specs.Starts.{tier_of, start_nodes};
+ghost use Rattle.un_resolve.specs.Resolved.{condition_of, barriers_of, resolved, resolving_due};
+
+use crate::kinds::{is_always_consistent, lacking};
+use crate::names::{Conditions, conditions_of, copy_name, functions, tier_barrier, tier_disjoint};
+use crate::starts::{Starts, starts_of};
+use std::alloc::{AllocError, Global};
+use un_ask::{Funcs, TraceAsk, TypedAsk};
+use un_conds::Cond;
+use un_defs::port::{Nodes, Ports};
+use un_defs::{Barriers, Refusal};
+use un_facts::Facts;
+
+/// Where the walks of a trace stop, given its tier and its barrier condition.
+fn barriers(
+    alloc: Global,
+    facts: &Facts,
+    ask: &TraceAsk,
+    tier: Option<u8>,
+    request: Option<Cond>,
+) -> Result<Barriers, AllocError>
+    requires tier { tier ≡ tier_of facts.now ask.now }
+    requires request { request ≡ condition_of facts.now.setup.schema ask.now.barriers }
+    ensures { IfOk result (λ barriers. barriers ≡ barriers_of facts.now ask.now) }
+{
+    let of_tier = tier_barrier(alloc, facts, ask, tier)?;
+    let stops = ask.stops.as_slice().to_vec(alloc)?;
+    Ok(Barriers {
+        request,
+        of_tier,
+        stops: Ports::new(stops),
+        tier,
+        consistent: is_always_consistent(ask.kind) || ask.consistent,
+    })
+}
+
+/// The trace, given its starts and its conditions.
+fn built(
+    alloc: Global,
+    facts: &Facts,
+    ask: &TraceAsk,
+    starts: Starts,
+    conditions: Conditions,
+) -> Result<TypedAsk, AllocError>
+    requires nodes { starts.nodes.items ≡ start_nodes facts.now ask.now }
+    requires tier { starts.tier ≡ tier_of facts.now ask.now }
+    requires isolators { conditions.isolators ≡ condition_of facts.now.setup.schema ask.now.isolators }
+    requires barriers { conditions.barriers ≡ condition_of facts.now.setup.schema ask.now.barriers }
+    ensures { IfOk result (λ typed. typed ≡ resolved facts.now ask.now) }
+{
+    let Starts { nodes, tier } = starts;
+    let barriers = barriers(alloc, facts, ask, tier, conditions.barriers)?;
+    let subnet = copy_name(alloc, &ask.subnet)?;
+    let functions = functions(alloc, facts.schema(), ask.functions.as_slice())?;
+    Ok(TypedAsk {
+        kind: ask.kind,
+        starts: Nodes::new(nodes),
+        barriers,
+        isolators: conditions.isolators,
+        subnet,
+        disjoint: tier_disjoint(facts, ask, tier),
+        include: ask.include,
+        functions: Funcs::new(functions),
+    })
+}
+
+/// The trace with its names looked up, and its starts as nodes of the features as they are now.
+///
+/// In this order it is refused: `BadRequest` where it lacks a member that its kind needs, with the member; `NoSuchFeature` for the first given
+/// start whose feature is not live; `NoSuchTier`; `NoSuchSubnetwork` where a subnetwork trace finds no controller of the tier and name;
+/// `NoStart` for the first given start that its feature has not; `BadCondition` for the isolating devices, and then for the barriers. It
+/// answers `Memory` only for want of memory.
+pub fn resolve(alloc: Global, facts: &Facts, ask: &TraceAsk) -> Result<TypedAsk, Refusal>
+    ensures typed { IfOk result (λ typed. typed ≡ resolved facts.now ask.now) }
+    ensures good { OnOk result (resolving_due facts.now ask.now ≡ None) }
+    ensures bad { IfErr result (λ r. r ≢ Memory → resolving_due facts.now ask.now ≡ Some r) }
+{
+    if let Some(refusal) = lacking(ask) {
+        return Err(refusal);
+    }
+    let starts = starts_of(alloc, facts, ask)?;
+    let conditions = conditions_of(alloc, facts.schema(), ask)?;
+    let typed = built(alloc, facts, ask, starts, conditions)?;
+    Ok(typed)
+}
