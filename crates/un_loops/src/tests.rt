@@ -3,7 +3,7 @@
 //! The expected segments are worked out by hand: line 1 is a lead-in and a ring of two segments, which joint 9 closes; lines 2 and 3 lie beside
 //! one another between joints 4 and 5; line 7 goes from one terminal of tee 6 to the other.
 
-ghost use Rattle.std.specs.Prelude.{◌≡◌, ◌<◌, ◌&&◌, true, [], ◌∷◌, IfOk};
+ghost use Rattle.std.specs.Prelude.{◌≡◌, ◌<◌, ◌&&◌, true, [], ◌∷◌, find, IfOk};
 ghost use Rattle.std.specs.Option.{option_copied};
 ghost use Rattle.std.proofs.Common.{arith};
 ghost use Rattle.un_geom.specs.Places.{same_point};
