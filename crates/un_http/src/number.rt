@@ -44,7 +44,8 @@ pub(crate) fn same_number(one: &[u8], other: &[u8]) -> bool
 pub(crate) fn small_number(digits: &[u8], most: u64) -> Option<u64>
     requires digits { is_number digits.now ≡ true }
     requires most { most ≤ 2 ^ 56 }
-    ensures { MatchOption result (most < number digits.now) (λ size. (size ≡ number digits.now) × (size ≤ most)) }
+    ensures { MatchOption result (most < number digits.now)
+        (λ size. (size ≡ number digits.now) × (size ≤ most)) }
 {
     let mut size: u64 = 0;
     for digit in digits {

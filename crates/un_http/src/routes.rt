@@ -57,8 +57,8 @@ fn router(alloc: Global) -> Result<Router<Kind>, InsertError>
 impl Routes {
     /// The five routes.
     pub fn new(alloc: Global) -> Result<Routes, AllocError>
-        ensures { IfOk result (λ routes. routes ≡ codes "/commands" ∷ codes "/features/{id}" ∷ codes "/queries"
-            ∷ codes "/subnetworks/{tier}/{subnet}" ∷ codes "/version" ∷ []) }
+        ensures { IfOk result (λ routes. routes ≡ codes "/commands" ∷ codes "/features/{id}"
+            ∷ codes "/queries" ∷ codes "/subnetworks/{tier}/{subnet}" ∷ codes "/version" ∷ []) }
     {
         match router(alloc) {
             Ok(router) => Ok(Routes { router }),

@@ -261,3 +261,20 @@ fn a_block_that_does_not_end_is_refused_after_8192_bytes(rt: HostRuntime) -> Res
     assert!(rt; is_refused_endless(&rt, rt.alloc())?);
     Ok(())
 }
+
+// Whether a request with a body is given neither while a byte of it is missing nor where a read of it fails.
+fn is_kept_until_whole<R: Wait>(rt: &R, alloc: Global) -> Result<bool, AllocError> {
+    let input = b"POST /commands HTTP/1.1\r\nContent-Length: 9\r\n\r\n{\"do\":12}";
+    let lines = b"POST /commands {\"do\":12}\n";
+    Ok(
+        gives_however_cut(rt, alloc, input, lines, Next::Closed)?
+            && ends_inside(rt, alloc, input, 1)?
+            && fails_at_each_read(rt, alloc, input, 1)?,
+    )
+}
+
+#[test]
+fn a_body_may_be_cut_anywhere(rt: HostRuntime) -> Result<(), Fail> {
+    assert!(rt; is_kept_until_whole(&rt, rt.alloc())?);
+    Ok(())
+}
