@@ -136,6 +136,7 @@ fn start_ports(
 pub(crate) fn starts_of(alloc: Global, facts: &Facts, ask: &TraceAsk) -> Result<Starts, Refusal>
     ensures nodes { IfOk result (λ s. s.nodes.items ≡ start_nodes facts.now ask.now) }
     ensures tier { IfOk result (λ s. s.tier ≡ tier_of facts.now ask.now) }
+    ensures found { OnOk result (no_tier facts.now ask.now ≡ None) }
     ensures good { OnOk result (starts_due facts.now ask.now ≡ None) }
     ensures bad { IfErr result (λ r. r ≢ Memory → starts_due facts.now ask.now ≡ Some r) }
 {

@@ -1,7 +1,8 @@
 //! The call that looks up the names of a trace.
 
-ghost use Rattle.std.specs.Prelude.{◌≡◌, ◌≢◌, Some, None, IfOk, OnOk, IfErr};
+ghost use Rattle.std.specs.Prelude.{◌≡◌, ◌≢◌, Some, None, IsSome, IsTrue, IfOk, OnOk, IfErr};
 ghost use Rattle.un_defs.specs.declared.refusal.Refusal.TheVariants.{Memory};
+ghost use Rattle.un_resolve.specs.Kinds.{needs_tier};
 ghost use Rattle.un_resolve.specs.Starts.{tier_of, start_nodes};
 ghost use Rattle.un_resolve.specs.Resolved.{condition_of, barriers_of, resolved, resolving_due};
 
@@ -74,9 +75,12 @@ fn built(
 /// start whose feature is not live; `NoSuchTier`; `NoSuchSubnetwork` where a subnetwork trace finds no controller of the tier and name;
 /// `NoStart` for the first given start that its feature has not; `BadCondition` for the isolating devices, and then for the barriers. It
 /// answers `Memory` only for want of memory.
+#[tactic(auto, using(crate::proofs::Tiers::has_tier))]
 pub fn resolve(alloc: Global, facts: &Facts, ask: &TraceAsk) -> Result<TypedAsk, Refusal>
     ensures typed { IfOk result (λ typed. typed ≡ resolved facts.now ask.now) }
     ensures good { OnOk result (resolving_due facts.now ask.now ≡ None) }
+    // A trace that walks in a tier has one.
+    ensures tier { OnOk result (IsTrue (needs_tier ask.now.kind) → IsSome (tier_of facts.now ask.now)) }
     ensures bad { IfErr result (λ r. r ≢ Memory → resolving_due facts.now ask.now ≡ Some r) }
 {
     if let Some(refusal) = lacking(ask) {
