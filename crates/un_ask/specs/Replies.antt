@@ -1,5 +1,7 @@
--- The replies of commands.
-use Rattle.std.specs.Prelude.{◌≤◌, length, ⊤}
+-- The replies of commands, and of traces that meet dirt.
+use Rattle.std.specs.Prelude.{◌≤◌, length, None, ⊤}
+use Rattle.un_defs.specs.declared.walk.Dirt.{Dirt}
+use Rattle.un_defs.specs.declared.refusal.Refusal.TheVariants.{DirtyGround}
 use Rattle.un_ask.specs.declared.request.Command.{Command}
 use Rattle.un_ask.specs.declared.request.Command.TheVariants.{Batch}
 use Rattle.un_ask.specs.declared.reply.Reply.{Reply}
@@ -24,3 +26,7 @@ HasFewIds other = ⊤
 abbrev pub HasFewEdits : Command → Type 0
 HasFewEdits (Batch edits) = length edits ≤ 256
 HasFewEdits other = ⊤
+
+-- the reply of a trace that meets dirt names the area and the port. The caller puts in the version.
+abbrev pub on_dirty_ground : Dirt → Reply
+on_dirty_ground d = reply.Refused (DirtyGround d.area d.port.feature d.port.number) None 0

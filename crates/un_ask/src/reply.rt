@@ -1,10 +1,14 @@
+//! What requests are answered.
+ghost use Rattle.std.specs.Prelude.{◌≡◌};
+ghost use Rattle.un_ask.specs.Replies.{on_dirty_ground};
+
 use crate::areas::{Areas, PlacedErrors, Points};
 use crate::results::{Controllers, Parts, Segments, Totals};
 use crate::stored::{Status, StoredSubnet};
 use crate::trace::TraceKind;
 use crate::word::EditWord;
 use un_defs::port::Ports;
-use un_defs::{Flow, Ids, NamedAttrs, Note, Refusal};
+use un_defs::{Dirt, Flow, Ids, NamedAttrs, Note, Refusal};
 use un_schema::Name;
 
 /// What a request is answered. `areas` is the number of the first dirty area that the command made and how many it made,
@@ -89,6 +93,23 @@ pub enum Reply {
         edit: Option<u64>,
         version: u64,
     },
+}
+
+impl Reply {
+    /// The reply of a trace that meets dirt, which names the area and the port. The caller puts in the version.
+    pub fn on_dirty_ground(dirt: Dirt) -> Reply
+        ensures { result ≡ on_dirty_ground dirt }
+    {
+        Reply::Refused {
+            refusal: Refusal::DirtyGround {
+                area: dirt.area,
+                feature: dirt.port.feature,
+                port: dirt.port.number,
+            },
+            edit: None,
+            version: 0,
+        }
+    }
 }
 
 /// A feature as it stands, with its names.

@@ -18,15 +18,15 @@ use Rattle.std.proofs.lemmas.List.Elements.{All-nil, All-cons}
 use Rattle.un_defs.proofs.Unique.{port_itself}
 use Rattle.un_defs.specs.Sound.{IsLive, IsLiveJoint, HasEnds}
 use Rattle.un_assoc.specs.Containing.{containers_above}
-use Rattle.un_assoc.specs.Refusals.{first_due, due_if, no_feature, of_feature, of_both, not_joints, no_terminal, not_containing, not_attaching, not_controlling, no_tier, in_itself, is_controlled, port_at}
+use Rattle.un_assoc.specs.Refusals.{first_refusal, refused_if, no_feature, of_feature, of_both, not_joints, no_terminal, not_containing, not_attaching, not_controlling, no_tier, in_itself, is_controlled, port_at}
 use Rattle.un_assoc.specs.Lawful.{MayBeMadeLaw}
 
 -- where the first due refusal of several is none, none of them is due
-pub none_due : (d : Option Refusal) (ds : List (Option Refusal)) → first_due (d ∷ ds) ≡ None → (d ≡ None) × (first_due ds ≡ None)
-none_due None ds e = (refl, e)
-none_due (Some r) ds e = cc
+pub none_refused : (d : Option Refusal) (ds : List (Option Refusal)) → first_refusal (d ∷ ds) ≡ None → (d ≡ None) × (first_refusal ds ≡ None)
+none_refused None ds e = (refl, e)
+none_refused (Some r) ds e = cc
 
-no_test : (b : Bool) (r : Refusal) → due_if b r ≡ None → b ≡ false
+no_test : (b : Bool) (r : Refusal) → refused_if b r ≡ None → b ≡ false
 no_test true r e = cc
 no_test false r e = refl
 
@@ -56,11 +56,11 @@ module _ (F : Features) where
       by None is e = cc
       by (Some r) is e = record { found = r; is = is }
 
-  due_of : (id : ℕ) (r : Row) (due : Row → Option Refusal) → row F id ≡ Some r → of_feature F id due ≡ None → due r ≡ None
-  due_of id r due is e = sym (ap (option_and_then due) is) ∙ e
+  no_refusal_of : (id : ℕ) (r : Row) (cause : Row → Option Refusal) → row F id ≡ Some r → of_feature F id cause ≡ None → cause r ≡ None
+  no_refusal_of id r cause is e = sym (ap (option_and_then cause) is) ∙ e
 
-  due_of_both : (first second : ℕ) (r s : Row) (due : Row → Row → Option Refusal) → row F first ≡ Some r → row F second ≡ Some s → of_both F first second due ≡ None → due r s ≡ None
-  due_of_both first second r s due is_r is_s e = due_of second s (due r) is_s (due_of first r (λ r. of_feature F second (due r)) is_r e)
+  no_refusal_of_both : (first second : ℕ) (r s : Row) (cause : Row → Row → Option Refusal) → row F first ≡ Some r → row F second ≡ Some s → of_both F first second cause ≡ None → cause r s ≡ None
+  no_refusal_of_both first second r s cause is_r is_s e = no_refusal_of second s (cause r) is_s (no_refusal_of first r (λ r. of_feature F second (cause r)) is_r e)
 
   live : (id : ℕ) (r : Row) → row F id ≡ Some r → IsLive F id
   live id r e = subst IsSome (sym e) refl
@@ -73,7 +73,7 @@ module _ (F : Features) where
   connect_ends id from to first second joints =
       let r = there from.feature first in
       let s = there to.feature second in
-      let tests = neither (not (is_joint r.found.class && is_joint s.found.class)) (from.feature == to.feature) (no_test _ refusal.WrongKind (due_of_both from.feature to.feature r.found s.found (not_joints from to) r.is s.is joints)) in
+      let tests = neither (not (is_joint r.found.class && is_joint s.found.class)) (from.feature == to.feature) (no_test _ refusal.WrongKind (no_refusal_of_both from.feature to.feature r.found s.found (not_joints from to) r.is s.is joints)) in
       let joined = both (is_joint r.found.class) (is_joint s.found.class) tests.0 in
       let distinct : (from.feature == to.feature) ≡ false = tests.1 in
       record {
@@ -102,7 +102,7 @@ module _ (F : Features) where
   attach_ends id structure content first second classes =
       let r = there structure first in
       let s = there content second in
-      let tests = neither (not (is_structure r.found.class)) (is_structure s.found.class) (no_test _ refusal.WrongKind (due_of_both structure content r.found s.found not_attaching r.is s.is classes)) in
+      let tests = neither (not (is_structure r.found.class)) (is_structure s.found.class) (no_test _ refusal.WrongKind (no_refusal_of_both structure content r.found s.found not_attaching r.is s.is classes)) in
       record {
         from = live structure r.found r.is;
         to = live content s.found s.is;
@@ -119,7 +119,7 @@ module _ (F : Features) where
   live_joint : (id terminal : ℕ) → no_feature F id ≡ None → of_feature F id (no_terminal (port_at id terminal)) ≡ None → IsLiveJoint F id
   live_joint id terminal first terminals =
       let r = there id first in
-      let has : has_terminal r.found terminal ≡ true = is_not (has_terminal r.found terminal) (no_test _ (refusal.BadTerminal id) (due_of id r.found (no_terminal (port_at id terminal)) r.is terminals)) in
+      let has : has_terminal r.found terminal ≡ true = is_not (has_terminal r.found terminal) (no_test _ (refusal.BadTerminal id) (no_refusal_of id r.found (no_terminal (port_at id terminal)) r.is terminals)) in
       joint id r.found r.is (front (is_joint r.found.class) (nat_le 1 terminal) (nat_le terminal r.found.terminals) has)
     where
       front : (a b c : Bool) → ((a && b) && c) ≡ true → a ≡ true
@@ -137,34 +137,34 @@ not_there q (c ∷ more) e = by (same_port c.port q) refl e (not_there q more)
 free_port : (F : Features) (q : Port) → is_controlled F q ≡ None → All (λ c. c.port ≢ q) F.controllers
 free_port F q e = not_there q F.controllers (by (find (λ c. same_port c.port q) F.controllers) e)
   where
-    by : (o : Option Controller) → due_if (is_some o) refusal.ControllerExists ≡ None → o ≡ None
+    by : (o : Option Controller) → refused_if (is_some o) refusal.ControllerExists ≡ None → o ≡ None
     by None e = refl
     by (Some c) e = cc
 
 pub may_be_made : MayBeMadeLaw
-may_be_made T next F (edit.Connect from to) word due =
-    let first = none_due (no_feature F from.feature) _ due in
-    let second = none_due (no_feature F to.feature) _ first.1 in
-    let joints = none_due (of_both F from.feature to.feature (not_joints from to)) _ second.1 in
+may_be_made T next F (edit.Connect from to) word cause =
+    let first = none_refused (no_feature F from.feature) _ cause in
+    let second = none_refused (no_feature F to.feature) _ first.1 in
+    let joints = none_refused (of_both F from.feature to.feature (not_joints from to)) _ second.1 in
     connect_ends F next.association from to first.0 second.0 joints.0
-may_be_made T next F (edit.Contain container content) word due =
-    let first = none_due (no_feature F container) _ due in
-    let second = none_due (no_feature F content) _ first.1 in
-    let class = none_due (of_feature F container not_containing) _ second.1 in
-    let distinct = none_due (in_itself F.associations container content) _ class.1 in
+may_be_made T next F (edit.Contain container content) word cause =
+    let first = none_refused (no_feature F container) _ cause in
+    let second = none_refused (no_feature F content) _ first.1 in
+    let class = none_refused (of_feature F container not_containing) _ second.1 in
+    let distinct = none_refused (in_itself F.associations container content) _ class.1 in
     contain_ends F next.association container content first.0 second.0 distinct.0
-may_be_made T next F (edit.Attach structure content) word due =
-    let first = none_due (no_feature F structure) _ due in
-    let second = none_due (no_feature F content) _ first.1 in
-    let classes = none_due (of_both F structure content not_attaching) _ second.1 in
+may_be_made T next F (edit.Attach structure content) word cause =
+    let first = none_refused (no_feature F structure) _ cause in
+    let second = none_refused (no_feature F content) _ first.1 in
+    let classes = none_refused (of_both F structure content not_attaching) _ second.1 in
     attach_ends F next.association structure content first.0 second.0 classes.0
-may_be_made T next F (edit.Detach assoc) word due = tt
-may_be_made T next F (edit.Controller id terminal tier subnet) word due =
-    let first = none_due (no_feature F id) _ due in
-    let kind = none_due (of_feature F id (not_controlling T.catalog)) _ first.1 in
-    let terminals = none_due (of_feature F id (no_terminal (port_at id terminal))) _ kind.1 in
-    let named = none_due (no_tier T.tiers tier) _ terminals.1 in
-    let free = none_due (is_controlled F (port_at id terminal)) _ named.1 in
+may_be_made T next F (edit.Detach assoc) word cause = tt
+may_be_made T next F (edit.Controller id terminal tier subnet) word cause =
+    let first = none_refused (no_feature F id) _ cause in
+    let kind = none_refused (of_feature F id (not_controlling T.catalog)) _ first.1 in
+    let terminals = none_refused (of_feature F id (no_terminal (port_at id terminal))) _ kind.1 in
+    let named = none_refused (no_tier T.tiers tier) _ terminals.1 in
+    let free = none_refused (is_controlled F (port_at id terminal)) _ named.1 in
     (live_joint F id terminal first.0 terminals.0, free_port F (port_at id terminal) free.0)
-may_be_made T next F (edit.Uncontroller id terminal) word due = tt
-may_be_made T next F _ word due = absurd word
+may_be_made T next F (edit.Uncontroller id terminal) word cause = tt
+may_be_made T next F _ word cause = absurd word

@@ -12,7 +12,7 @@ use Rattle.un_defs.specs.declared.refusal.Refusal.{Refusal}
 use Rattle.un_defs.specs.Laws.{MayBeMade}
 use Rattle.un_defs.specs.Dirtied.{dirtied}
 use Rattle.un_defs.proofs.LinkCases.{both_true}
-use Rattle.un_defs.specs.Dues.{first_due}
+use Rattle.un_defs.specs.Refusing.{first_refusal}
 use Rattle.un_dirty.specs.Areas.{DirtyList}
 use Rattle.un_facts.specs.declared.ids.NextIds.{NextIds}
 use Rattle.un_facts.specs.Known.{Known, settled_at as settled_known}
@@ -52,40 +52,40 @@ cut_at es place e is inside =
 -- Once the edits before a place have left a state, with these ids and rectangles, what is left of the batch is made on that state.
 pub record IsUnderWay (s : State) (es : List Edit) (place : ℕ) (t : State) (ids rows : List ℕ) (rects : List Rectangle) : Type 0 where
   pub left : made_by_all s es ≡ made_by_all t (drop place es)
-  pub told : ids_of_all s es ≡ ids ++ ids_of_all t (drop place es)
+  pub ids_are : ids_of_all s es ≡ ids ++ ids_of_all t (drop place es)
   pub touched : touched_by_all s es ≡ rows ++ touched_by_all t (drop place es)
   pub dirtied : dirtied_by_batch s es ≡ rects ++ dirtied_by_batch t (drop place es)
   pub refused : first_refused s 0 es ≡ first_refused t place (drop place es)
   pub may : MayAllBeMade t (drop place es) → MayAllBeMade s es
 
 pub at_first : (s : State) (es : List Edit) → IsUnderWay s es 0 s [] [] []
-at_first s es = record { left = refl; told = refl; touched = refl; dirtied = refl; refused = refl; may = λ may. may }
+at_first s es = record { left = refl; ids_are = refl; touched = refl; dirtied = refl; refused = refl; may = λ may. may }
 
 module _ (s : State) (es : List Edit) (place : ℕ) (t : State) (ids rows : List ℕ) (rects : List Rectangle) (is : IsUnderWay s es place t ids rows rects)
     (e : Edit) (cut : drop place es ≡ e ∷ drop (place + 1) es) where
   -- one edit more
-  pub one_more : (u : State) (id : ℕ) → u ≡ made_at 0 t e → id ≡ id_of t e → MayBeMade (setting t) (next_with t 0) t.features e → first_due (beside_numbers t e) ≡ None
+  pub one_more : (u : State) (id : ℕ) → u ≡ made_at 0 t e → id ≡ id_of t e → MayBeMade (setting t) (next_with t 0) t.features e → first_refusal (beside_numbers t e) ≡ None
       → IsUnderWay s es (place + 1) u (ids ++ id ∷ []) (rows ++ touched t e) (rects ++ dirtied t.features e)
-  one_more u id u_is id_is may due =
+  one_more u id u_is id_is may cause =
       let rest = drop (place + 1) es in
       record {
         left = is.left ∙ ap (made_by_all t) cut ∙ ap (λ v. made_by_all v rest) (sym u_is);
-        told = is.told ∙ ap (λ l. ids ++ ids_of_all t l) cut ∙ (λ i. ids ++ (sym id_is i ∷ ids_of_all (sym u_is i) rest)) ∙ sym (append_assoc ids (id ∷ []) (ids_of_all u rest));
+        ids_are = is.ids_are ∙ ap (λ l. ids ++ ids_of_all t l) cut ∙ (λ i. ids ++ (sym id_is i ∷ ids_of_all (sym u_is i) rest)) ∙ sym (append_assoc ids (id ∷ []) (ids_of_all u rest));
         touched = is.touched ∙ ap (λ l. rows ++ touched_by_all t l) cut ∙ ap (λ v. rows ++ (touched t e ++ touched_by_all v rest)) (sym u_is)
             ∙ sym (append_assoc rows (touched t e) (touched_by_all u rest));
         dirtied = is.dirtied ∙ ap (λ l. rects ++ dirtied_by_batch t l) cut ∙ ap (λ v. rects ++ (dirtied t.features e ++ dirtied_by_batch v rest)) (sym u_is)
             ∙ sym (append_assoc rects (dirtied t.features e) (dirtied_by_batch u rest));
-        refused = is.refused ∙ ap (first_refused t place) cut ∙ ap (λ d. option_map_or (λ r. Some (place, r)) d (first_refused (made_at 0 t e) (place + 1) rest)) due
+        refused = is.refused ∙ ap (first_refused t place) cut ∙ ap (λ d. option_map_or (λ r. Some (place, r)) d (first_refused (made_at 0 t e) (place + 1) rest)) cause
             ∙ ap (λ v. first_refused v (place + 1) rest) (sym u_is);
         may = λ rest_may. is.may (subst (MayAllBeMade t) (sym cut) (may, subst (λ v. MayAllBeMade v rest) u_is rest_may));
       }
 
   -- the edit is refused, and the batch with it
-  pub refused_here : (r : Refusal) → first_due (beside_numbers t e) ≡ Some r
+  pub refused_here : (r : Refusal) → first_refusal (beside_numbers t e) ≡ Some r
       → (option_map (λ p. p.1) (first_refused s 0 es) ≡ Some r) × (option_map (λ p. p.0) (first_refused s 0 es) ≡ Some place)
-  refused_here r due =
+  refused_here r cause =
       let whole : first_refused s 0 es ≡ Some (place, r) =
-      is.refused ∙ ap (first_refused t place) cut ∙ ap (λ d. option_map_or (λ r. Some (place, r)) d (first_refused (made_at 0 t e) (place + 1) (drop (place + 1) es))) due in
+      is.refused ∙ ap (first_refused t place) cut ∙ ap (λ d. option_map_or (λ r. Some (place, r)) d (first_refused (made_at 0 t e) (place + 1) (drop (place + 1) es))) cause in
       (ap (option_map (λ p. p.1)) whole, ap (option_map (λ p. p.0)) whole)
 
 -- ---- the moments

@@ -15,9 +15,9 @@ use Rattle.un_core.specs.Validation.{by_point, met, is_under, rebuilt, count_err
 use Rattle.un_core.specs.Cover.{IsState}
 use Rattle.un_core.specs.Clearing.{ValidationLaw}
 use Rattle.un_core.proofs.LookUps.{Pairs, kept_by, sorted_map, missing, missing_kept, stars_kept}
-use Rattle.un_core.proofs.Telling.{table_sorted}
-use Rattle.un_core.proofs.Canonical.{AreTold, canonical}
-use Rattle.un_core.proofs.Rebuilding.{rebuilt_under, rebuilt_elsewhere, rebuilt_sorted, rebuilt_told, stars_fresh, told_fresh}
+use Rattle.un_core.proofs.Nonempty.{table_sorted}
+use Rattle.un_core.proofs.Canonical.{AreNonempty, canonical}
+use Rattle.un_core.proofs.Rebuilding.{rebuilt_under, rebuilt_elsewhere, rebuilt_sorted, rebuilt_nonempty, stars_fresh, nonempty_fresh}
 
 module _ (s : State) (is : IsState s) (extent : Rectangle) where
   abbrev under : Point → Bool
@@ -38,15 +38,15 @@ module _ (s : State) (is : IsState s) (extent : Rectangle) where
           ∙ sym (stars_kept under afresh p e ∙ stars_fresh s.setup.schema s.features is.sound p)
       go false e = missing (kept_by under after) p (missing_kept under after p e) ∙ sym (missing (kept_by under afresh) p (missing_kept under afresh p e))
 
-  after_told : AreTold (kept_by under after)
-  after_told pair i =
-      rebuilt_told s (met extent s.areas) is.sound (λ pair h. from_all (λ pair. pair.1 ≢ empty_star) s.kept is.told pair h) pair
+  after_nonempty : AreNonempty (kept_by under after)
+  after_nonempty pair i =
+      rebuilt_nonempty s (met extent s.areas) is.sound (λ pair h. from_all (λ pair. pair.1 ≢ empty_star) s.kept is.nonempty pair h) pair
       (among_from-filter (λ pair. under pair.0) after pair i).0
 
-  afresh_told : AreTold (kept_by under afresh)
-  afresh_told pair i e =
+  afresh_nonempty : AreNonempty (kept_by under afresh)
+  afresh_nonempty pair i e =
       let r = among_from-map (λ p. (p, star s.setup.schema s.features p)) (standing_points s.features) pair (among_from-filter (λ pair. under pair.0) afresh pair i).0 in
-      told_fresh s.setup.schema s.features is.sound r.0 r.1 (ap (λ pair. pair.1) r.2 ∙ e)
+      nonempty_fresh s.setup.schema s.features is.sound r.0 r.1 (ap (λ pair. pair.1) r.2 ∙ e)
 
   -- under the areas the kept stars are those of all features
   same_under : kept_by under after ≡ kept_by under afresh
@@ -55,7 +55,7 @@ module _ (s : State) (is : IsState s) (extent : Rectangle) where
       (IsStrictlySortedBy-filter by_point (λ pair. under pair.0) after (rebuilt_sorted s (met extent s.areas)))
       (IsStrictlySortedBy-filter by_point (λ pair. under pair.0) afresh
       (table_sorted (star s.setup.schema s.features) (standing_points s.features) (sorted-rising point_total (map (λ n. n.at) (nodes s.features)))))
-      after_told afresh_told same_stars
+      after_nonempty afresh_nonempty same_stars
 
 pub validation_does : ValidationLaw
 validation_does s extent is = record {

@@ -1,32 +1,39 @@
 -- What might happen to a state leaves a state.
-use Rattle.std.proofs.Common.{◌≡◌, ◌≢◌, ℕ, ◌+◌, ◌<◌, Bool, true, false, not, List, [], ◌∷◌, ◌++◌, refl, sym, ◌∙◌, subst, All, IsFalse}
+use Rattle.std.proofs.Common.{◌≡◌, ◌≢◌, ℕ, ◌+◌, ◌<◌, Bool, true, false, not, List, [], ◌∷◌, ◌++◌, refl, sym, ◌∙◌, subst, All, Contains, IsFalse, find}
 use Rattle.std.specs.List.{list_any, enumerate_from}
+use Rattle.std.specs.Option.{option_map_or}
 use Rattle.std.proofs.lemmas.List.Folds.{list_any-append}
 use Rattle.std.proofs.lemmas.List.Elements.{All-filter}
 use Rattle.std.proofs.lemmas.List.Kept.{AllPairs-filter}
 use Rattle.un_geom.specs.declared.point.Point.{Point}
 use Rattle.un_geom.specs.Rectangle.{Rectangle}
 use Rattle.un_geom.specs.Places.{covers, meets}
+use Rattle.un_defs.specs.declared.port.Node.{Node}
+use Rattle.un_defs.specs.declared.link.Tie.{Tie}
+use Rattle.un_defs.specs.declared.star.Star.{Star}
 use Rattle.un_defs.specs.declared.edit.Edit.{Edit}
+use Rattle.un_defs.specs.Orders.{same_port}
 use Rattle.un_defs.specs.Star.{star, empty_star}
 use Rattle.un_defs.specs.Change.{Next, changed, after}
 use Rattle.un_defs.specs.Features.{Features}
 use Rattle.un_defs.specs.Dirtied.{dirtied}
 use Rattle.un_defs.specs.Laws.{AreNew, MayBeMade}
+use Rattle.un_defs.proofs.Members.{among_from_contains}
+use Rattle.un_defs.proofs.TwoGrounds.{fresh_path}
 use Rattle.un_defs.proofs.Unique.{from_all}
 use Rattle.un_defs.proofs.Locality.{locality, or_both}
 use Rattle.un_defs.proofs.KeepsSound.{keeps_sound, all_from}
 use Rattle.un_index.specs.Kept.{stars_of}
-use Rattle.un_core.specs.State.{State, fresh_star}
+use Rattle.un_core.specs.State.{State, fresh_star, kept_ground}
 use Rattle.un_core.specs.Validation.{met, unmet, is_under, rebuilt}
 use Rattle.un_ask.specs.declared.request.Command.TheVariants as command
 use Rattle.un_core.specs.Step.{setting, next_with, next_of, made_at, edited, made_by_all, touched_by_all, settled_at, batched}
 use Rattle.un_core.specs.Validation.{validated}
-use Rattle.un_core.specs.Cover.{IsState, MayAllBeMade, MayHappen, CoverLaw}
+use Rattle.un_core.specs.Cover.{IsState, PathsStay, MayAllBeMade, MayHappen, CoverLaw}
 use Rattle.un_core.proofs.NextIds.{new_after}
 use Rattle.un_core.proofs.LookUps.{sorted_map}
 use Rattle.un_facts.proofs.Settled.{settled_sound, settled_star, settled_new}
-use Rattle.un_core.proofs.Rebuilding.{rebuilt_under, rebuilt_elsewhere, rebuilt_sorted, rebuilt_told}
+use Rattle.un_core.proofs.Rebuilding.{rebuilt_under, rebuilt_elsewhere, rebuilt_sorted, rebuilt_nonempty}
 use Rattle.un_core.proofs.Numbers.{numbered_more, under_more, any_enumerated, any_split}
 
 -- ids are new at every moment
@@ -41,8 +48,9 @@ at_version s version is = record {
   numbered = is.numbered;
   numbers = is.numbers;
   sorted = is.sorted;
-  told = is.told;
+  nonempty = is.nonempty;
   cover = is.cover;
+  paths = is.paths;
 }
 
 module _ (s : State) (is : IsState s) where
@@ -70,8 +78,9 @@ module _ (s : State) (is : IsState s) where
       numbered = numbered_more s.areas (dirtied s.features e) s.next_area is.numbered is.numbers;
       numbers = under_more s.areas (dirtied s.features e) s.next_area is.numbers;
       sorted = is.sorted;
-      told = is.told;
+      nonempty = is.nonempty;
       cover = made_cover;
+      paths = is.paths;
     }
 
   -- the edit is a step to the next version
@@ -90,6 +99,21 @@ module _ (s : State) (is : IsState s) where
             rebuilt_elsewhere s (met extent s.areas) (sorted_map s.kept is.sorted) p e
             ∙ is.cover p (any_split (λ area. covers area.1 p) (λ area. meets area.1 extent) s.areas e h)
 
+    -- the links that a node has by the star at its point
+    abbrev ties_by : Star → Node → List Tie
+    ties_by star n = option_map_or (λ spot. spot.ties) (find (λ spot. same_port spot.port n.port) star.spots) []
+
+    validated_paths : PathsStay (kept_ground (validated s extent))
+    validated_paths n t stands path = go (is_under (met extent s.areas) n.at) refl
+      where
+        go : (b : Bool) → is_under (met extent s.areas) n.at ≡ b → t.to.at ≡ n.at
+        go true e =
+            fresh_path s.setup.schema s.features s.areas n t
+            (among_from_contains (ties_by (fresh_star s n.at) n) t
+            (subst (λ star. Contains (ties_by star n) t) (rebuilt_under s (met extent s.areas) is.sound (sorted_map s.kept is.sorted) n.at e) stands)) path
+        go false e =
+            is.paths n t (subst (λ star. Contains (ties_by star n) t) (rebuilt_elsewhere s (met extent s.areas) (sorted_map s.kept is.sorted) n.at e) stands) path
+
     pub validated_state : IsState (validated s extent)
     validated_state = record {
       sound = is.sound;
@@ -97,9 +121,10 @@ module _ (s : State) (is : IsState s) where
       numbered = AllPairs-filter (λ a b. a.0 ≢ b.0) (λ area. not (meets area.1 extent)) s.areas is.numbered;
       numbers = All-filter (λ area. not (meets area.1 extent)) (λ area. area.0 < s.next_area) s.areas is.numbers;
       sorted = rebuilt_sorted s (met extent s.areas);
-      told = all_from (λ pair. pair.1 ≢ empty_star) (rebuilt s (met extent s.areas))
-          (rebuilt_told s (met extent s.areas) is.sound (λ pair h. from_all (λ pair. pair.1 ≢ empty_star) s.kept is.told pair h));
+      nonempty = all_from (λ pair. pair.1 ≢ empty_star) (rebuilt s (met extent s.areas))
+          (rebuilt_nonempty s (met extent s.areas) is.sound (λ pair h. from_all (λ pair. pair.1 ≢ empty_star) s.kept is.nonempty pair h));
       cover = validated_cover;
+      paths = validated_paths;
     }
 
 -- ---- a batch
@@ -116,8 +141,9 @@ settled_state s moment ids is = record {
   numbered = is.numbered;
   numbers = is.numbers;
   sorted = is.sorted;
-  told = is.told;
+  nonempty = is.nonempty;
   cover = λ p clean. is.cover p clean ∙ settled_star s.setup.schema s.features moment ids is.sound p;
+  paths = is.paths;
 }
 
 pub batched_state : (s : State) (es : List Edit) → IsState s → MayHappen s (command.Batch es) → IsState (batched s es)

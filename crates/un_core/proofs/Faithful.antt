@@ -3,7 +3,7 @@ use Rattle.std.proofs.Common.{◌≡◌, List, ◌++◌, ap, subst, ◌∙◌}
 use Rattle.un_ask.specs.declared.request.Command.{Command}
 use Rattle.un_ask.specs.declared.request.Request.{Request}
 use Rattle.un_ask.specs.declared.request.Request.TheVariants as request
-use Rattle.un_facts.specs.declared.setup.Setup.{Setup}
+use Rattle.un_tiers.specs.declared.setup.Setup.{Setup}
 use Rattle.un_core.specs.State.{State}
 use Rattle.un_core.specs.Commands.{command_reply, state_after, accepted_of}
 use Rattle.un_core.specs.Answers.{answer}

@@ -6,7 +6,7 @@ use Rattle.un_geom.specs.declared.point.Point.{Point}
 use Rattle.un_geom.specs.Places.{same_point}
 use Rattle.un_schema.specs.Catalog.{Catalog}
 use Rattle.un_ask.specs.declared.request.Command.{Command}
-use Rattle.un_facts.specs.declared.setup.Setup.{Setup}
+use Rattle.un_tiers.specs.declared.setup.Setup.{Setup}
 use Rattle.un_defs.specs.declared.port.Node.{Node}
 use Rattle.un_defs.specs.declared.star.Spot.{Spot}
 use Rattle.un_defs.specs.declared.walk.Mode.{Mode}
@@ -32,7 +32,7 @@ use Rattle.un_core.specs.Answers.{fresh_survey}
 use Rattle.un_core.specs.HistoryAnswers.{history_survey}
 use Rattle.un_core.proofs.Opening.{all_states}
 use Rattle.un_core.proofs.Rebuilding.{bare_unless}
-use Rattle.un_core.proofs.Spreading.{reached_is_reach}
+use Rattle.un_walk.proofs.Spreading.{reached_is_reach}
 
 -- a reach is one list
 pub reach_unique : (step : Node → Node → Bool) (starts xs ys : List Node) → IsReach step starts xs → IsReach step starts ys → xs ≡ ys
@@ -129,9 +129,9 @@ history_points S (c ∷ before) may p =
 pub same_ground : (S : Setup) (history : List Command) → IsOfHistory S history → kept_ground (after_all S history) ≡ history_ground S history
 same_ground S history is = λ i. record { stars = λ p. is.kept p i; areas = is.areas i }
 
-pub reached_told : (S : Setup) (history : List Command) → MayAllHappen S history → IsOfHistory S history → (B : Barriers) (mode : Mode) (starts nodes : List Node)
+pub reached_reply : (S : Setup) (history : List Command) → MayAllHappen S history → IsOfHistory S history → (B : Barriers) (mode : Mode) (starts nodes : List Node)
     → IsReach (leads (kept_ground (after_all S history)) B mode) starts nodes
     → nodes ≡ reached (history_survey S history) B mode starts
-reached_told S history may of_history B mode starts nodes reach =
+reached_reply S history may of_history B mode starts nodes reach =
     reached_here (history_survey S history) (history_points S history may) B mode starts nodes
     (subst (λ G. IsReach (leads G B mode) starts nodes) (same_ground S history of_history) reach)

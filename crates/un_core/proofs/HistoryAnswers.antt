@@ -9,15 +9,16 @@ use Rattle.un_ask.specs.declared.request.Command.TheVariants as command
 use Rattle.un_ask.specs.declared.query.Asked.{Asked}
 use Rattle.un_ask.specs.declared.query.Asked.TheVariants.{Version, Dirty, Errors, Trace}
 use Rattle.un_ask.specs.declared.reply.Reply.TheVariants as reply
-use Rattle.un_facts.specs.declared.setup.Setup.{Setup}
+use Rattle.un_tiers.specs.declared.setup.Setup.{Setup}
+use Rattle.un_resolve.specs.Resolved.{resolved, resolving_refusal}
 use Rattle.un_core.specs.State.{State}
 use Rattle.un_core.specs.Validation.{met, IsKept}
 use Rattle.un_core.specs.History.{after_all}
 use Rattle.un_core.specs.Cover.{IsState, MayAllHappen, IsOfHistory}
 use Rattle.un_core.specs.Listed.{errors_in}
-use Rattle.un_core.specs.Answers.{at_version, connected_from, query_due, refused, start_nodes, starts_due, asked_on, traced, traced_on, survey_for, kept_survey, fresh_survey, kept_basis, fresh_basis}
+use Rattle.un_core.specs.Answers.{at_version, query_refusal, refused, asked_on, traced, traced_on, survey_for, kept_survey, fresh_survey, kept_basis, fresh_basis}
 use Rattle.un_core.specs.Walks.{TwoGroundsLaw}
-use Rattle.un_core.specs.Commands.{first_refusal, refusal_reply, accepted}
+use Rattle.un_core.specs.Commands.{command_refusal, refusal_reply, accepted}
 use Rattle.un_core.specs.Clearing.{fresh_errors}
 use Rattle.un_core.specs.HistoryAnswers.{fresh_after, history_survey, history_basis, accepted_after, ReplyLaw, AnswerLaw}
 use Rattle.un_core.proofs.Opening.{all_states}
@@ -40,11 +41,11 @@ module _ (s : State) (is : IsState s) where
       go false e = refl
 
   asked_fresh : (what : Asked) → asked_on s (kept_basis s) what ≡ asked_on s (fresh_basis s) what
-  asked_fresh (Trace ask) = ap (option_map_or (refused s) (starts_due s ask.starts)) (same_on_fresh (connected_from ask (start_nodes s ask.starts)))
+  asked_fresh (Trace ask) = ap (option_map_or (refused s) (resolving_refusal s.setup s.features ask)) (same_on_fresh (resolved s.setup s.features ask))
   asked_fresh _ = refl
 
 pub two_grounds : TwoGroundsLaw
-two_grounds s q is = ap (option_map_or (refused s) (query_due s q)) (asked_fresh s is q.what)
+two_grounds s q is = ap (option_map_or (refused s) (query_refusal s q)) (asked_fresh s is q.what)
 
 -- ---- the history
 
@@ -68,7 +69,7 @@ module _ (S : Setup) (history : List Command) (may : MayAllHappen S history) whe
 
   same_errors : (extent : _) → errors_in (kept_survey (after_all S history)) extent ≡ errors_in (history_survey S history) extent
   same_errors extent =
-      let kept : IsKept (after_all S history).kept = record { sorted = is.sorted; told = is.told } in
+      let kept : IsKept (after_all S history).kept = record { sorted = is.sorted; nonempty = is.nonempty } in
       sym (errors_listed (kept_survey (after_all S history)) (after_all S history).kept kept (λ p. refl) (kept_points (after_all S history).kept) extent)
       ∙ errors_listed (history_survey S history) (after_all S history).kept kept (λ p. sym (of_history.kept p)) (history_points S history may) extent
 
@@ -77,8 +78,8 @@ module _ (S : Setup) (history : List Command) (may : MayAllHappen S history) whe
   answered_so (Dirty extent) = λ i. reply.Dirty (met extent (of_history.areas i)) (versions_count S history i)
   answered_so (Errors extent) = λ i. reply.Errors (same_errors extent i) (versions_count S history i)
   answered_so (Trace ask) =
-      let typed = connected_from ask (start_nodes (after_all S history) ask.starts) in
-      λ i. option_map_or (refused (after_all S history)) (starts_due (after_all S history) ask.starts)
+      let typed = resolved (after_all S history).setup (after_all S history).features ask in
+      λ i. option_map_or (refused (after_all S history)) (resolving_refusal (after_all S history).setup (after_all S history).features ask)
       (at_version (versions_count S history i) (by_mode typed typed.barriers.consistent refl i))
   answered_so _ = refl
 
@@ -90,7 +91,7 @@ module _ (S : Setup) (history : List Command) (may : MayAllHappen S history) whe
   accepted_so _ = refl
 
 pub history_replies : ReplyLaw
-history_replies S history c may = ap (option_map_or (refusal_reply (after_all S history) c) (first_refusal (after_all S history) c)) (accepted_so S history may c)
+history_replies S history c may = ap (option_map_or (refusal_reply (after_all S history) c) (command_refusal (after_all S history) c)) (accepted_so S history may c)
 
 pub history_answers : AnswerLaw
-history_answers S history q may = ap (option_map_or (refused (after_all S history)) (query_due (after_all S history) q)) (answered_so S history may q.what)
+history_answers S history q may = ap (option_map_or (refused (after_all S history)) (query_refusal (after_all S history) q)) (answered_so S history may q.what)

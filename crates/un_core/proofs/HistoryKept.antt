@@ -11,7 +11,7 @@ use Rattle.un_defs.proofs.ListLemmas.{filter-append}
 use Rattle.un_index.specs.Kept.{stars_of}
 use Rattle.un_ask.specs.declared.request.Command.{Command}
 use Rattle.un_ask.specs.declared.request.Command.TheVariants as command
-use Rattle.un_facts.specs.declared.setup.Setup.{Setup}
+use Rattle.un_tiers.specs.declared.setup.Setup.{Setup}
 use Rattle.un_core.specs.State.{State, fresh_star}
 use Rattle.un_core.specs.Validation.{met, unmet, is_under, rebuilt}
 use Rattle.un_core.specs.Step.{made_at, made_by_all, dirtied_by_batch}
@@ -73,7 +73,7 @@ alive_later S later e (d ∷ before) =
 -- a command that clears nothing leaves the areas that it makes behind those that were there
 grown : (S : Setup) (e : Command) (before : List Command) → ((area : ℕ × Rectangle) → clears area e ≡ false) → IsOfHistory S before
     → (after_all S before).areas ++ made_by (after_all S before) e ≡ dirty_after S (e ∷ before)
-grown S e before none told = λ i. (told.areas ∙ stays ∙ sym (alive_later S [] e before)) i ++ sym (filter_all (made_by (after_all S before) e)) i
+grown S e before none before_is = λ i. (before_is.areas ∙ stays ∙ sym (alive_later S [] e before)) i ++ sym (filter_all (made_by (after_all S before) e)) i
   where
     stays : dirty_after S before ≡ filter (λ area. not (clears area e)) (dirty_after S before)
     stays = sym (filter_all (dirty_after S before)) ∙ (λ i. filter (λ area. not (sym (none area) i)) (dirty_after S before))
@@ -103,35 +103,35 @@ made_kept s (e ∷ es) = made_kept (made_at 0 s e) es
 
 validated_kept : (S : Setup) (before : List Command) (extent : Rectangle) (p : Point) → IsState (after_all S before) → IsOfHistory S before
     → stars_of (after_all S (command.Validate extent ∷ before)).kept p ≡ kept_after S (command.Validate extent ∷ before) p
-validated_kept S before extent p is told = go (is_under (met extent (after_all S before).areas) p) refl
+validated_kept S before extent p is before_is = go (is_under (met extent (after_all S before).areas) p) refl
   where
     same : is_under (met extent (after_all S before).areas) p ≡ rebuilds S before (command.Validate extent) p
-    same = any_filtered (λ area. covers area.1 p) (λ area. meets area.1 extent) (after_all S before).areas ∙ ap (list_any (λ area. meets area.1 extent && covers area.1 p)) told.areas
+    same = any_filtered (λ area. covers area.1 p) (λ area. meets area.1 extent) (after_all S before).areas ∙ ap (list_any (λ area. meets area.1 extent && covers area.1 p)) before_is.areas
 
     go : (b : Bool) → is_under (met extent (after_all S before).areas) p ≡ b
         → stars_of (rebuilt (after_all S before) (met extent (after_all S before).areas)) p ≡ (if rebuilds S before (command.Validate extent) p then fresh_star (after_all S before) p else kept_after S before p)
     go true e = rebuilt_under (after_all S before) (met extent (after_all S before).areas) is.sound (sorted_map (after_all S before).kept is.sorted) p e ∙ ap (λ b. if b then fresh_star (after_all S before) p else kept_after S before p) (sym e ∙ same)
     go false e =
-        rebuilt_elsewhere (after_all S before) (met extent (after_all S before).areas) (sorted_map (after_all S before).kept is.sorted) p e ∙ told.kept p ∙ ap (λ b. if b then fresh_star (after_all S before) p else kept_after S before p) (sym e ∙ same)
+        rebuilt_elsewhere (after_all S before) (met extent (after_all S before).areas) (sorted_map (after_all S before).kept is.sorted) p e ∙ before_is.kept p ∙ ap (λ b. if b then fresh_star (after_all S before) p else kept_after S before p) (sym e ∙ same)
 
 -- ---- both
 
 pub kept_is_history : HistoryLaw
 kept_is_history S [] may = record { areas = refl; kept = λ p. refl }
 kept_is_history S (command.Edit e ∷ before) may =
-    let told = kept_is_history S before may.1 in
-    record { areas = grown S (command.Edit e) before (λ area. refl) told; kept = told.kept }
+    let before_is = kept_is_history S before may.1 in
+    record { areas = grown S (command.Edit e) before (λ area. refl) before_is; kept = before_is.kept }
 kept_is_history S (command.Batch es ∷ before) may =
-    let told = kept_is_history S before may.1 in
+    let before_is = kept_is_history S before may.1 in
     record {
-      areas = made_areas (after_all S before) es ∙ grown S (command.Batch es) before (λ area. refl) told;
-      kept = λ p. ap (λ kept. stars_of kept p) (made_kept (after_all S before) es) ∙ told.kept p;
+      areas = made_areas (after_all S before) es ∙ grown S (command.Batch es) before (λ area. refl) before_is;
+      kept = λ p. ap (λ kept. stars_of kept p) (made_kept (after_all S before) es) ∙ before_is.kept p;
     }
 kept_is_history S (command.Validate extent ∷ before) may =
-    let told = kept_is_history S before may.1 in
+    let before_is = kept_is_history S before may.1 in
     record {
-      areas = ap (unmet extent) told.areas ∙ sym (alive_later S [] (command.Validate extent) before) ∙ sym (append-nil (alive_under S (command.Validate extent ∷ []) before));
-      kept = λ p. validated_kept S before extent p (all_states S before may.1) told;
+      areas = ap (unmet extent) before_is.areas ∙ sym (alive_later S [] (command.Validate extent) before) ∙ sym (append-nil (alive_under S (command.Validate extent ∷ []) before));
+      kept = λ p. validated_kept S before extent p (all_states S before may.1) before_is;
     }
 kept_is_history S (command.Rule rule ∷ before) may = absurd may.0
 kept_is_history S (command.Update tier subnet ∷ before) may = absurd may.0

@@ -1,5 +1,5 @@
 pub mod Asked
-pub mod SameTold
+pub mod SameReply
 pub mod Traces
 pub mod NextIds
 pub mod LookUps
@@ -9,9 +9,8 @@ pub mod CoverKept
 pub mod Making
 pub mod Opening
 pub mod HistoryKept
-pub mod Spreading
 pub mod Canonical
-pub mod Telling
+pub mod Nonempty
 pub mod Replaced
 pub mod Grounds
 pub mod Listed
@@ -27,3 +26,4 @@ pub mod Exact
 pub mod Logs
 pub mod Faithful
 pub mod Stepping
+pub mod Taken

@@ -19,7 +19,7 @@ use Rattle.un_core.specs.Validation.{by_point, IsKept}
 use Rattle.un_core.specs.Walked.{Survey}
 use Rattle.un_core.specs.Listed.{errors_at, errors_in}
 use Rattle.un_core.proofs.LookUps.{Pairs, table, table_map, stars_table, missing_table, missing}
-use Rattle.un_core.proofs.Telling.{tells, tells_not, tells_something, stars_telling, table_sorted}
+use Rattle.un_core.proofs.Nonempty.{is_nonempty, empty_otherwise, nonempty_star, stars_nonempty, table_sorted}
 use Rattle.un_core.proofs.Canonical.{canonical}
 use Rattle.un_core.proofs.Grounds.{HasPoints}
 
@@ -32,24 +32,24 @@ abbrev pub errors_kept : Pairs → Rectangle → List (Point × TopoError)
 errors_kept kept extent = flat_map errors_of_pair (filter (λ pair. covers extent pair.0) kept)
 
 -- stars that tell nothing have no errors to list
-list_telling : (G : Ground) (extent : Rectangle) (ps : List Point) → errors_kept (filter tells (table G.stars ps)) extent ≡ flat_map (errors_at G) (filter (covers extent) ps)
-list_telling G extent [] = refl
-list_telling G extent (p ∷ ps) = go (tells (p, G.stars p)) (covers extent p) refl (list_telling G extent ps)
+list_nonempty : (G : Ground) (extent : Rectangle) (ps : List Point) → errors_kept (filter is_nonempty (table G.stars ps)) extent ≡ flat_map (errors_at G) (filter (covers extent) ps)
+list_nonempty G extent [] = refl
+list_nonempty G extent (p ∷ ps) = go (is_nonempty (p, G.stars p)) (covers extent p) refl (list_nonempty G extent ps)
   where
-    go : (t c : Bool) → tells (p, G.stars p) ≡ t → errors_kept (filter tells (table G.stars ps)) extent ≡ flat_map (errors_at G) (filter (covers extent) ps)
-        → errors_kept (cond t ((p, G.stars p) ∷ filter tells (table G.stars ps)) (filter tells (table G.stars ps))) extent ≡ flat_map (errors_at G) (cond (covers extent p) (p ∷ filter (covers extent) ps) (filter (covers extent) ps))
+    go : (t c : Bool) → is_nonempty (p, G.stars p) ≡ t → errors_kept (filter is_nonempty (table G.stars ps)) extent ≡ flat_map (errors_at G) (filter (covers extent) ps)
+        → errors_kept (cond t ((p, G.stars p) ∷ filter is_nonempty (table G.stars ps)) (filter is_nonempty (table G.stars ps))) extent ≡ flat_map (errors_at G) (cond (covers extent p) (p ∷ filter (covers extent) ps) (filter (covers extent) ps))
     go true c e rest = by (covers extent p)
       where
-        by : (c : Bool) → flat_map errors_of_pair (cond c ((p, G.stars p) ∷ filter (λ pair. covers extent pair.0) (filter tells (table G.stars ps))) (filter (λ pair. covers extent pair.0) (filter tells (table G.stars ps))))
+        by : (c : Bool) → flat_map errors_of_pair (cond c ((p, G.stars p) ∷ filter (λ pair. covers extent pair.0) (filter is_nonempty (table G.stars ps))) (filter (λ pair. covers extent pair.0) (filter is_nonempty (table G.stars ps))))
             ≡ flat_map (errors_at G) (cond c (p ∷ filter (covers extent) ps) (filter (covers extent) ps))
         by true = ap (λ l. errors_at G p ++ l) rest
         by false = rest
     go false c e rest = by (covers extent p)
       where
         none : errors_at G p ≡ []
-        none = ap (λ star. map (λ e. (p, e)) star.errors) (tells_not (G.stars p) e)
+        none = ap (λ star. map (λ e. (p, e)) star.errors) (empty_otherwise (G.stars p) e)
 
-        by : (c : Bool) → errors_kept (filter tells (table G.stars ps)) extent ≡ flat_map (errors_at G) (cond c (p ∷ filter (covers extent) ps) (filter (covers extent) ps))
+        by : (c : Bool) → errors_kept (filter is_nonempty (table G.stars ps)) extent ≡ flat_map (errors_at G) (cond c (p ∷ filter (covers extent) ps) (filter (covers extent) ps))
         by true = rest ∙ ap (λ l. l ++ flat_map (errors_at G) (filter (covers extent) ps)) (sym none)
         by false = rest
 
@@ -63,8 +63,8 @@ module _ (v : Survey) (kept : Pairs) (is : IsKept kept) (same : (p : Point) → 
   abbrev sorted : List Point
   sorted = rising point_cmp points
 
-  looked_up : (p : Point) → stars_of (filter tells (table G.stars sorted)) p ≡ stars_of kept p
-  looked_up p = stars_telling (table G.stars sorted) (table_map G.stars sorted) p ∙ go (list_any (λ q. same_point q p) sorted) refl
+  looked_up : (p : Point) → stars_of (filter is_nonempty (table G.stars sorted)) p ≡ stars_of kept p
+  looked_up p = stars_nonempty (table G.stars sorted) (table_map G.stars sorted) p ∙ go (list_any (λ q. same_point q p) sorted) refl
     where
       go : (b : Bool) → list_any (λ q. same_point q p) sorted ≡ b → stars_of (table G.stars sorted) p ≡ stars_of kept p
       go true e = stars_table G.stars sorted p e ∙ same p
@@ -76,9 +76,9 @@ module _ (v : Survey) (kept : Pairs) (is : IsKept kept) (same : (p : Point) → 
   -- the errors of what is kept, by the ground that it is
   pub errors_listed : (extent : Rectangle) → errors_kept kept extent ≡ errors_in v extent
   errors_listed extent =
-      ap (λ l. errors_kept l extent) (canonical kept (filter tells (table G.stars sorted)) is.sorted
-      (IsStrictlySortedBy-filter by_point tells (table G.stars sorted) (table_sorted G.stars sorted (sorted-rising point_total points)))
-      (λ pair h. from_all (λ pair. pair.1 ≢ empty_star) kept is.told pair h)
-      (λ pair i. tells_something pair (among_from-filter tells (table G.stars sorted) pair i).1)
+      ap (λ l. errors_kept l extent) (canonical kept (filter is_nonempty (table G.stars sorted)) is.sorted
+      (IsStrictlySortedBy-filter by_point is_nonempty (table G.stars sorted) (table_sorted G.stars sorted (sorted-rising point_total points)))
+      (λ pair h. from_all (λ pair. pair.1 ≢ empty_star) kept is.nonempty pair h)
+      (λ pair i. nonempty_star pair (among_from-filter is_nonempty (table G.stars sorted) pair i).1)
       (λ p. sym (looked_up p)))
-      ∙ list_telling G extent sorted
+      ∙ list_nonempty G extent sorted

@@ -5,25 +5,25 @@ use Rattle.un_defs.specs.declared.refusal.Refusal.{Refusal}
 use Rattle.un_machine.specs.Logs.{Leads}
 use Rattle.un_ask.specs.declared.request.Command.{Command}
 use Rattle.un_ask.specs.declared.reply.Reply.{Reply}
-use Rattle.un_facts.specs.declared.setup.Setup.{Setup}
+use Rattle.un_tiers.specs.declared.setup.Setup.{Setup}
 use Rattle.un_core.specs.State.{State}
 use Rattle.un_core.specs.Step.{next_state, dirtied_by}
 use Rattle.un_core.specs.Accepted.{IsAfter}
-use Rattle.un_core.specs.Commands.{first_refusal, refusal_reply, accepted, step}
+use Rattle.un_core.specs.Commands.{command_refusal, refusal_reply, accepted, step}
 use Rattle.un_core.specs.Logs.{LogEntry, with_log, LogLaw}
 use Rattle.un_core.proofs.Accepted.{opening_is_after, one_more, versions_count}
 use Rattle.un_core.proofs.Stepping.{by, one_done, not_both}
 
 -- a step that is done leads to the next state, and nothing was due
-done : (s : State) (c : Command) (t : State) (told : Reply × List Rectangle) → step s c ≡ inl (t, told) → (first_refusal s c ≡ None) × (next_state s c ≡ t)
-done s c t told is = go (first_refusal s c) refl is
+done : (s : State) (c : Command) (t : State) (reply : Reply × List Rectangle) → step s c ≡ inl (t, reply) → (command_refusal s c ≡ None) × (next_state s c ≡ t)
+done s c t reply is = go (command_refusal s c) refl is
   where
-    go : (d : Option Refusal) → first_refusal s c ≡ d
-        → by s c d ≡ inl (t, told)
-        → (first_refusal s c ≡ None) × (next_state s c ≡ t)
+    go : (d : Option Refusal) → command_refusal s c ≡ d
+        → by s c d ≡ inl (t, reply)
+        → (command_refusal s c ≡ None) × (next_state s c ≡ t)
     go None none is =
-        (none, ap (λ (pair : State × (Reply × List Rectangle)). pair.0) (one_done (by s c None) (next_state s c, (accepted s c, dirtied_by s c)) (t, told) refl is))
-    go (Some r) due is = absurd (not_both (by s c (Some r)) (t, told) (refusal_reply s c r) is refl)
+        (none, ap (λ (pair : State × (Reply × List Rectangle)). pair.0) (one_done (by s c None) (next_state s c, (accepted s c, dirtied_by s c)) (t, reply) refl is))
+    go (Some r) cause is = absurd (not_both (by s c (Some r)) (t, reply) (refusal_reply s c r) is refl)
 
 -- from the state after a history, a log leads to the one after that history with its commands
 log_follows : (S : Setup) (history : List Command) (s : State) (log : List LogEntry) (t : State) → IsAfter S history s → Leads step s log t → IsAfter S (with_log history log) t

@@ -1,5 +1,5 @@
 -- What an edit leaves of a state, by the parts of a network.
-use Rattle.std.proofs.Common.{◌≡◌, ℕ, ◌+◌, ◌<◌, ◌≤◌, List, [], ◌∷◌, ◌++◌, length, Option, None, Some, refl, sym, ap, subst, ◌∙◌, arith}
+use Rattle.std.proofs.Common.{◌≡◌, ℕ, ◌+◌, ◌≤◌, List, [], ◌∷◌, ◌++◌, length, Option, None, Some, refl, sym, ap, subst, ◌∙◌, arith}
 use Rattle.std.specs.Prelude.{nat_lt, false}
 use Rattle.std.specs.List.{enumerate_from}
 use Rattle.std.proofs.lemmas.Bool.Decides.{nat_tests}
@@ -12,20 +12,19 @@ use Rattle.un_defs.specs.declared.edit.Edit.TheVariants as edit
 use Rattle.un_defs.specs.declared.refusal.Refusal.{Refusal}
 use Rattle.un_defs.specs.declared.refusal.Refusal.TheVariants as refusal
 use Rattle.un_defs.specs.declared.refusal.Limit.TheVariants as limit
-use Rattle.un_defs.specs.Dues.{first_due, due_if}
+use Rattle.un_defs.specs.Refusing.{first_refusal, refused_if}
 use Rattle.un_defs.specs.Dirtied.{dirtied}
 use Rattle.un_defs.specs.Change.{Next, after}
 use Rattle.un_defs.specs.Laws.{AreNew, MayBeMade}
 use Rattle.un_dirty.specs.Areas.{DirtyList, added}
 use Rattle.un_facts.specs.declared.ids.NextIds.{NextIds}
-use Rattle.un_facts.specs.Known.{Known, setting as names, next_at, edited}
-use Rattle.un_facts.specs.Refusals.{refusal_of}
+use Rattle.un_facts.specs.Known.{Known, next_at, edited}
 use Rattle.un_core.specs.State.{State}
 use Rattle.un_core.specs.Step.{setting, next_with, next_of, made_at}
 use Rattle.un_core.specs.Cover.{IsState}
 use Rattle.un_core.specs.Held.{held}
 use Rattle.un_core.specs.Making.{AreasGrow, FeaturesGrow, AssociationsGrow}
-use Rattle.un_core.specs.Refusals.{numbers_due, most_areas, too_many, beside_numbers, edit_due}
+use Rattle.un_core.specs.Refusals.{numbers_refusal, most_areas, too_many, beside_numbers, edit_refusal}
 use Rattle.un_core.proofs.CoverKept.{made_state, same_ids}
 use Rattle.std.proofs.lemmas.List.FromFn.{length-enumerate_from}
 
@@ -33,8 +32,8 @@ use Rattle.std.proofs.lemmas.List.FromFn.{length-enumerate_from}
 
 -- where there are few areas, no rectangles are not too many
 pub too_many_is : (areas : List (ℕ × Rectangle)) (rects : List Rectangle) → length areas ≤ most_areas
-    → too_many areas rects ≡ due_if (nat_lt most_areas (length areas + length rects)) (refusal.Full limit.Areas)
-too_many_is areas [] few = ap (λ b. due_if b (refusal.Full limit.Areas)) (sym room)
+    → too_many areas rects ≡ refused_if (nat_lt most_areas (length areas + length rects)) (refusal.Full limit.Areas)
+too_many_is areas [] few = ap (λ b. refused_if b (refusal.Full limit.Areas)) (sym room)
   where
     room : nat_lt most_areas (length areas + 0) ≡ false
     room = grind (arith, nat_tests)
@@ -118,18 +117,18 @@ module _ (K : Known) (kept : List (Point × Star)) (dirty : DirtyList) (version 
 -- ---- refusals
 
 -- beside the numbers, an edit is refused for what it does to the features, and then for the areas
-pub two_none : (a b : Option Refusal) → a ≡ None → b ≡ None → first_due (a ∷ b ∷ []) ≡ None
-two_none a b p q = (λ i. first_due (p i ∷ q i ∷ []))
+pub two_none : (a b : Option Refusal) → a ≡ None → b ≡ None → first_refusal (a ∷ b ∷ []) ≡ None
+two_none a b p q = (λ i. first_refusal (p i ∷ q i ∷ []))
 
-pub two_first : (a b : Option Refusal) (r : Refusal) → a ≡ Some r → first_due (a ∷ b ∷ []) ≡ Some r
-two_first a b r p = (λ i. first_due (p i ∷ b ∷ []))
+pub two_first : (a b : Option Refusal) (r : Refusal) → a ≡ Some r → first_refusal (a ∷ b ∷ []) ≡ Some r
+two_first a b r p = (λ i. first_refusal (p i ∷ b ∷ []))
 
-pub two_second : (a b : Option Refusal) (r : Refusal) → a ≡ None → b ≡ Some r → first_due (a ∷ b ∷ []) ≡ Some r
-two_second a b r p q = (λ i. first_due (p i ∷ q i ∷ []))
+pub two_second : (a b : Option Refusal) (r : Refusal) → a ≡ None → b ≡ Some r → first_refusal (a ∷ b ∷ []) ≡ Some r
+two_second a b r p q = (λ i. first_refusal (p i ∷ q i ∷ []))
 
 -- the numbers are looked at first
-pub edit_bad : (s : State) (e : Edit) (r : Refusal) → numbers_due s ≡ Some r → edit_due s e ≡ Some r
-edit_bad s e r due = λ i. first_due (due i ∷ beside_numbers s e)
+pub edit_bad : (s : State) (e : Edit) (r : Refusal) → numbers_refusal s ≡ Some r → edit_refusal s e ≡ Some r
+edit_bad s e r cause = λ i. first_refusal (cause i ∷ beside_numbers s e)
 
-pub edit_beside : (s : State) (e : Edit) (d : Option Refusal) → numbers_due s ≡ None → first_due (beside_numbers s e) ≡ d → edit_due s e ≡ d
-edit_beside s e d none beside = (λ i. first_due (none i ∷ beside_numbers s e)) ∙ beside
+pub edit_beside : (s : State) (e : Edit) (d : Option Refusal) → numbers_refusal s ≡ None → first_refusal (beside_numbers s e) ≡ d → edit_refusal s e ≡ d
+edit_beside s e d none beside = (λ i. first_refusal (none i ∷ beside_numbers s e)) ∙ beside

@@ -2,11 +2,12 @@
 use Rattle.std.proofs.Common.{List, [], ◌∷◌, refl, arith}
 use Rattle.std.specs.List.Sorted.{IsStrictlySortedBy}
 use Rattle.un_ask.specs.declared.request.Command.{Command}
-use Rattle.un_facts.specs.declared.setup.Setup.{Setup}
+use Rattle.un_tiers.specs.declared.setup.Setup.{Setup}
 use Rattle.un_core.specs.State.{opening}
 use Rattle.un_core.specs.Validation.{by_point}
 use Rattle.un_core.specs.History.{after_all}
 use Rattle.un_core.specs.Cover.{IsState, MayAllHappen}
+use Rattle.un_defs.proofs.Members.{among_from_contains}
 use Rattle.un_core.proofs.CoverKept.{cover_is_kept}
 
 sorted_nil : IsStrictlySortedBy by_point []
@@ -27,8 +28,9 @@ opening_state S = record {
   numbered = λ i j d l m. absurd (omega arith);
   numbers = λ i d l. absurd (omega arith);
   sorted = sorted_nil;
-  told = λ i d l. absurd (omega arith);
+  nonempty = λ i d l. absurd (omega arith);
   cover = λ p _. refl;
+  paths = λ n t stands path. absurd (among_from_contains [] t stands);
 }
 
 pub all_states : (S : Setup) (history : List Command) → MayAllHappen S history → IsState (after_all S history)

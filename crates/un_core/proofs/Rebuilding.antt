@@ -41,8 +41,8 @@ stars_fresh S F sound p = go (list_any (λ q. same_point q p) (standing_points F
     go false e = missing (fresh S F) p (missing_table (star S F) (standing_points F) p e) ∙ sym (empty_elsewhere S F sound p (bare_unless F p e))
 
 -- a star of a standing point has an entry
-pub told_fresh : (S : Catalog) (F : Features) → IsSound S F → (q : Point) → Among (standing_points F) q → star S F q ≢ empty_star
-told_fresh S F sound q h e =
+pub nonempty_fresh : (S : Catalog) (F : Features) → IsSound S F → (q : Point) → Among (standing_points F) q → star S F q ≢ empty_star
+nonempty_fresh S F sound q h e =
     let r = among_from-map (λ n. n.at) (nodes F) q (among_from-rising point_cmp (map (λ n. n.at) (nodes F)) q h) in
     let found = entry_of S F sound [] r.0 r.1 in
     some_none (sym found.1 ∙ ap (λ spots. find (λ s. same_port s.port r.0.port) spots) (ap (λ star. star.spots) (ap (star S F) r.2 ∙ e)))
@@ -99,12 +99,12 @@ module _ (s : State) (areas : List (ℕ × Rectangle)) where
   rebuilt_sorted = sorted-rising by_point_total (outside ++ inside)
 
   -- a pair of either sort tells something
-  pub rebuilt_told : IsSound s.setup.schema s.features → ((pair : Point × Star) → Among s.kept pair → pair.1 ≢ empty_star)
+  pub rebuilt_nonempty : IsSound s.setup.schema s.features → ((pair : Point × Star) → Among s.kept pair → pair.1 ≢ empty_star)
       → (pair : Point × Star) → Among (rebuilt s areas) pair → pair.1 ≢ empty_star
-  rebuilt_told sound told pair h =
+  rebuilt_nonempty sound nonempty pair h =
       elim (among_cases outside inside pair (among_from-rising by_point (outside ++ inside) pair h)) [
-        | inl i ↦ told pair (among_from-filter (λ pair. not (is_under areas pair.0)) s.kept pair i).0
+        | inl i ↦ nonempty pair (among_from-filter (λ pair. not (is_under areas pair.0)) s.kept pair i).0
         | inr i ↦ λ e.
             let r = among_from-map (λ p. (p, star s.setup.schema s.features p)) (standing_points s.features) pair (among_from-filter (λ pair. is_under areas pair.0) (fresh s.setup.schema s.features) pair i).0 in
-            told_fresh s.setup.schema s.features sound r.0 r.1 (ap (λ pair. pair.1) r.2 ∙ e)
+            nonempty_fresh s.setup.schema s.features sound r.0 r.1 (ap (λ pair. pair.1) r.2 ∙ e)
       ]

@@ -8,9 +8,7 @@ use Rattle.std.proofs.lemmas.List.Sums.{sum_by-append}
 use Rattle.un_geom.specs.declared.point.Point.{Point}
 use Rattle.un_geom.specs.Places.{same_point, point_cmp}
 use Rattle.un_defs.specs.declared.star.Star.{Star}
-use Rattle.un_defs.specs.Features.{Features}
 use Rattle.un_defs.specs.Star.{star, empty_star}
-use Rattle.un_schema.specs.Catalog.{Catalog}
 use Rattle.un_defs.proofs.Unique.{point_same}
 use Rattle.un_index.specs.Kept.{stars_of, is_empty_star, IsKept as IsKeptHere, AreStars}
 use Rattle.un_core.specs.State.{State, fresh_star}
@@ -69,15 +67,15 @@ unfolding IsStrictlySortedBy
 sorted_pairs [] h = tt
 sorted_pairs (x ∷ kept) h = (less_all x.0 x.1 kept h.0, sorted_pairs kept h.1)
 
-told_pairs : (kept : List (Point × Star)) → AreStars kept → (pair : Point × Star) → Among kept pair → pair.1 ≢ empty_star
-told_pairs [] h pair i e = absurd i
-told_pairs (x ∷ kept) h pair i e = elim i [
+nonempty_pairs : (kept : List (Point × Star)) → AreStars kept → (pair : Point × Star) → Among kept pair → pair.1 ≢ empty_star
+nonempty_pairs [] h pair i e = absurd i
+nonempty_pairs (x ∷ kept) h pair i e = elim i [
   | inl same ↦ let f : true ≡ false = ap is_empty_star (sym e ∙ ap (λ p. p.1) (sym same)) ∙ h.0 in cc
-  | inr rest ↦ told_pairs kept h.1 pair rest e
+  | inr rest ↦ nonempty_pairs kept h.1 pair rest e
 ]
 
 pub kept_is : (kept : List (Point × Star)) → IsKeptHere kept → IsKept kept
-kept_is kept is = record { sorted = sorted_pairs kept is.rising; told = all_from (λ pair. pair.1 ≢ empty_star) kept (told_pairs kept is.stars) }
+kept_is kept is = record { sorted = sorted_pairs kept is.rising; nonempty = all_from (λ pair. pair.1 ≢ empty_star) kept (nonempty_pairs kept is.stars) }
 
 -- what is kept once the points under the areas that meet an extent have the stars of all features
 pub rebuilt_kept : (s : State) → IsState s → (extent : Rectangle) (areas : List (ℕ × Rectangle)) → areas ≡ met extent s.areas

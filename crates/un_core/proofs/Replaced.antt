@@ -18,9 +18,9 @@ use Rattle.un_core.specs.State.{State, fresh_star}
 use Rattle.un_core.specs.Validation.{is_under, by_point, rebuilt, errors_under, count_errors, ArePoints, AreRebuilt, IsKept}
 use Rattle.un_core.specs.Cover.{IsState}
 use Rattle.un_core.proofs.LookUps.{Pairs, table_map, table, kept_by, sorted_map, stars_kept, stars_table, missing_kept, missing_table, missing}
-use Rattle.un_core.proofs.Rebuilding.{rebuilt_under, rebuilt_elsewhere, rebuilt_sorted, rebuilt_told}
+use Rattle.un_core.proofs.Rebuilding.{rebuilt_under, rebuilt_elsewhere, rebuilt_sorted, rebuilt_nonempty}
 use Rattle.un_core.proofs.Canonical.{canonical}
-use Rattle.un_core.proofs.Telling.{tells, tells_not, tells_something, stars_telling, table_sorted}
+use Rattle.un_core.proofs.Nonempty.{is_nonempty, empty_otherwise, nonempty_star, stars_nonempty, table_sorted}
 
 -- ---- a point of a list
 
@@ -42,13 +42,13 @@ more_none : (n m : ℕ) → m ≡ 0 → n ≡ m + n
 more_none n m e = omega (arith, e)
 
 -- stars that tell nothing have no errors
-count_telling : (xs : Pairs) → count_errors (filter tells xs) ≡ count_errors xs
-count_telling [] = refl
-count_telling (x ∷ xs) = go (tells x) refl (count_telling xs)
+count_nonempty : (xs : Pairs) → count_errors (filter is_nonempty xs) ≡ count_errors xs
+count_nonempty [] = refl
+count_nonempty (x ∷ xs) = go (is_nonempty x) refl (count_nonempty xs)
   where
-    go : (b : Bool) → tells x ≡ b → count_errors (filter tells xs) ≡ count_errors xs → count_errors (cond b (x ∷ filter tells xs) (filter tells xs)) ≡ count_errors (x ∷ xs)
-    go true t rest = sum_by-cons errors_of x (filter tells xs) ∙ ap (λ n. errors_of x + n) rest ∙ sym (sum_by-cons errors_of x xs)
-    go false t rest = rest ∙ more_none (count_errors xs) (length x.1.errors) (ap (λ star. length star.errors) (tells_not x.1 t)) ∙ sym (sum_by-cons errors_of x xs)
+    go : (b : Bool) → is_nonempty x ≡ b → count_errors (filter is_nonempty xs) ≡ count_errors xs → count_errors (cond b (x ∷ filter is_nonempty xs) (filter is_nonempty xs)) ≡ count_errors (x ∷ xs)
+    go true t rest = sum_by-cons errors_of x (filter is_nonempty xs) ∙ ap (λ n. errors_of x + n) rest ∙ sym (sum_by-cons errors_of x xs)
+    go false t rest = rest ∙ more_none (count_errors xs) (length x.1.errors) (ap (λ star. length star.errors) (empty_otherwise x.1 t)) ∙ sym (sum_by-cons errors_of x xs)
 
 count_table : (f : Point → Star) (ps : List Point) → count_errors (table f ps) ≡ sum_by (λ p. length (f p).errors) ps
 count_table f [] = refl
@@ -65,8 +65,8 @@ module _ (s : State) (is : IsState s) (areas : List (ℕ × Rectangle)) (points 
     | inr r ↦ r
   ]
 
-  told : (pair : Point × Star) → Among s.kept pair → pair.1 ≢ empty_star
-  told pair h = from_all (λ pair. pair.1 ≢ empty_star) s.kept is.told pair h
+  nonempty : (pair : Point × Star) → Among s.kept pair → pair.1 ≢ empty_star
+  nonempty pair h = from_all (λ pair. pair.1 ≢ empty_star) s.kept is.nonempty pair h
 
   replaced_at : (p : Point) → (if has points p then fresh_star s p else stars_of s.kept p) ≡ stars_of (rebuilt s areas) p
   replaced_at p = go (has points p) (is_under areas p) refl refl
@@ -79,7 +79,7 @@ module _ (s : State) (is : IsState s) (areas : List (ℕ × Rectangle)) (points 
   -- what is kept after all points were replaced
   pub replaced : (kept : Pairs) → IsKept kept → AreRebuilt s points kept → kept ≡ rebuilt s areas
   replaced kept k are = canonical kept (rebuilt s areas) k.sorted (rebuilt_sorted s areas)
-      (λ pair h. from_all (λ pair. pair.1 ≢ empty_star) kept k.told pair h) (rebuilt_told s areas is.sound told) (λ p. are p ∙ replaced_at p)
+      (λ pair h. from_all (λ pair. pair.1 ≢ empty_star) kept k.nonempty pair h) (rebuilt_nonempty s areas is.sound nonempty) (λ p. are p ∙ replaced_at p)
 
   -- ---- errors
 
@@ -95,8 +95,8 @@ module _ (s : State) (is : IsState s) (areas : List (ℕ × Rectangle)) (points 
       let r = among_from_list_any (λ q. same_point q p) points t in
       true≢false (sym (has_from points p (subst (Among points) (point_same r.0 p r.2) r.1)) ∙ e))
 
-  same_there : (p : Point) → stars_of (filter tells (table fresh_at points)) p ≡ stars_of there p
-  same_there p = stars_telling (table fresh_at points) (table_map fresh_at points) p ∙ go (has points p) (is_under areas p) refl refl
+  same_there : (p : Point) → stars_of (filter is_nonempty (table fresh_at points)) p ≡ stars_of there p
+  same_there p = stars_nonempty (table fresh_at points) (table_map fresh_at points) p ∙ go (has points p) (is_under areas p) refl refl
     where
       go : (b u : Bool) → has points p ≡ b → is_under areas p ≡ u → stars_of (table fresh_at points) p ≡ stars_of there p
       go true u e k =
@@ -116,10 +116,10 @@ module _ (s : State) (is : IsState s) (areas : List (ℕ × Rectangle)) (points 
   pub errors_counted : IsStrictlySortedBy point_cmp points → sum_by (λ p. length (fresh_star s p).errors) points ≡ errors_under s areas
   errors_counted sorted =
       sym (count_table fresh_at points)
-      ∙ sym (count_telling (table fresh_at points))
-      ∙ ap count_errors (canonical (filter tells (table fresh_at points)) there
-      (IsStrictlySortedBy-filter by_point tells (table fresh_at points) (table_sorted fresh_at points sorted))
+      ∙ sym (count_nonempty (table fresh_at points))
+      ∙ ap count_errors (canonical (filter is_nonempty (table fresh_at points)) there
+      (IsStrictlySortedBy-filter by_point is_nonempty (table fresh_at points) (table_sorted fresh_at points sorted))
       (IsStrictlySortedBy-filter by_point (λ pair. is_under areas pair.0) (rebuilt s areas) (rebuilt_sorted s areas))
-      (λ pair i. tells_something pair (among_from-filter tells (table fresh_at points) pair i).1)
-      (λ pair i. rebuilt_told s areas is.sound told pair (among_from-filter (λ pair. is_under areas pair.0) (rebuilt s areas) pair i).0)
+      (λ pair i. nonempty_star pair (among_from-filter is_nonempty (table fresh_at points) pair i).1)
+      (λ pair i. rebuilt_nonempty s areas is.sound nonempty pair (among_from-filter (λ pair. is_under areas pair.0) (rebuilt s areas) pair i).0)
       same_there)

@@ -12,7 +12,7 @@ use Rattle.un_ask.specs.declared.reply.Reply.TheVariants as reply
 use Rattle.un_ask.specs.Replies.{IsOfCommand, HasFewIds, HasFewEdits}
 use Rattle.un_core.specs.State.{State}
 use Rattle.un_core.specs.Step.{id_of, ids_of_all, made_at, next_state, dirtied_by}
-use Rattle.un_core.specs.Commands.{Stepped, first_refusal, refusal_reply, accepted, step, word_of, areas_of_edit, edit_reply, command_reply, state_after, StepLaw}
+use Rattle.un_core.specs.Commands.{Stepped, command_refusal, refusal_reply, accepted, step, word_of, areas_of_edit, edit_reply, command_reply, state_after, StepLaw}
 
 -- ---- what it gives
 
@@ -30,7 +30,7 @@ module _ (s : State) (c : Command) where
   by d = option_map_or (λ r. inr (refusal_reply s c r)) d (inl (next_state s c, (accepted s c, dirtied_by s c)))
 
   pub when_done : (t : State) (r : Reply) (mark : List Rectangle) → step s c ≡ inl (t, (r, mark)) → (t ≡ state_after s c) × (r ≡ command_reply s c)
-  when_done t r mark is = go (first_refusal s c) is
+  when_done t r mark is = go (command_refusal s c) is
     where
       go : (d : Option Refusal) → by d ≡ inl (t, (r, mark)) → (t ≡ option_map_or (λ r. s) d (next_state s c)) × (r ≡ option_map_or (refusal_reply s c) d (accepted s c))
       go None is =
@@ -39,7 +39,7 @@ module _ (s : State) (c : Command) where
       go (Some d) is = absurd (not_both (by (Some d)) (t, (r, mark)) (refusal_reply s c d) is refl)
 
   pub when_refused : (r : Reply) → step s c ≡ inr r → (s ≡ state_after s c) × (r ≡ command_reply s c)
-  when_refused r is = go (first_refusal s c) is
+  when_refused r is = go (command_refusal s c) is
     where
       go : (d : Option Refusal) → by d ≡ inr r → (s ≡ option_map_or (λ r. s) d (next_state s c)) × (r ≡ option_map_or (refusal_reply s c) d (accepted s c))
       go None is = absurd (not_both (by None) (next_state s c, (accepted s c, dirtied_by s c)) r refl is)
@@ -73,7 +73,7 @@ accepted_short s (command.Rule rule) = record { command = tt; few = λ few. tt }
 accepted_short s (command.Update tier subnet) = record { command = tt; few = λ few. tt }
 
 reply_short : (s : State) (c : Command) → IsShort c (command_reply s c)
-reply_short s c = go (first_refusal s c)
+reply_short s c = go (command_refusal s c)
   where
     go : (d : Option Refusal) → IsShort c (option_map_or (refusal_reply s c) d (accepted s c))
     go None = accepted_short s c

@@ -13,18 +13,21 @@ use Rattle.un_defs.specs.Reach.{IsReach, leads, dirt, area_cmp, areas_over, port
 use Rattle.un_defs.proofs.Rising.{Among, among_from-rising, among-insert_key}
 use Rattle.un_defs.proofs.Members.{among-map, among-filter, among_from-filter, among_from_list_any, list_any_from_among}
 use Rattle.un_ask.specs.declared.typed.TypedAsk.{TypedAsk}
-use Rattle.un_trace.specs.Told.{told, told_over, mode_of}
+use Rattle.un_ask.specs.declared.reply.Reply.TheVariants.{Loops}
+use Rattle.un_trace.specs.TraceReply.{trace_reply, reply_given_dirt, mode_of}
+use Rattle.un_loops.specs.Answer.{loops_reply, loops_given_dirt}
+use Rattle.un_loops.proofs.SameLoops.{same_loops}
 use Rattle.un_ask.specs.declared.request.Command.{Command}
-use Rattle.un_facts.specs.declared.setup.Setup.{Setup}
+use Rattle.un_tiers.specs.declared.setup.Setup.{Setup}
 use Rattle.un_core.specs.State.{State, kept_ground, fresh_ground_of}
 use Rattle.un_core.specs.History.{after_all}
 use Rattle.un_core.specs.Cover.{IsState, MayAllHappen}
-use Rattle.un_core.specs.Answers.{kept_survey, fresh_survey, reached_from, traced}
+use Rattle.un_core.specs.Answers.{is_loops, kept_survey, fresh_survey, reached_from, reply_over, traced}
 use Rattle.un_core.specs.HistoryAnswers.{history_survey}
 use Rattle.un_core.proofs.Asked.{kept_points}
-use Rattle.un_core.proofs.Grounds.{reached_reaches, reached_fresh, reached_told, same_ground}
+use Rattle.un_core.proofs.Grounds.{reached_reaches, reached_fresh, reached_reply, same_ground}
 use Rattle.un_core.proofs.HistoryKept.{kept_is_history}
-use Rattle.un_core.proofs.SameTold.{told_agrees}
+use Rattle.un_core.proofs.SameReply.{reply_agrees}
 
 -- ---- dirt
 
@@ -87,25 +90,36 @@ module _ (s : State) (ask : TypedAsk) where
   same_entry : IsState s → dirt K nodes ≡ None → (n : Node) → Among nodes n → entry K n ≡ entry H n
   same_entry is none n h = ap (λ star. find (λ s. same_port s.port n.port) star.spots) (is.cover n.at (no_dirt K nodes none n h))
 
-  dirt_given : (G : Ground) (o : Option Dirt) → IsTrue ask.barriers.consistent → dirt G nodes ≡ o → told G ask nodes ≡ told_over o G ask nodes
+  dirt_given : (G : Ground) (o : Option Dirt) → IsTrue ask.barriers.consistent → dirt G nodes ≡ o → trace_reply G ask nodes ≡ reply_given_dirt o G ask nodes
   dirt_given G o consistent e =
-      (λ i. told_over (if consistent i then dirt G nodes else None) G ask nodes) ∙ ap (λ o. told_over o G ask nodes) e
+      (λ i. reply_given_dirt (if consistent i then dirt G nodes else None) G ask nodes) ∙ ap (λ o. reply_given_dirt o G ask nodes) e
 
-  told_same : IsState s → IsTrue ask.barriers.consistent → (o : Option Dirt) → dirt K nodes ≡ o → told K ask nodes ≡ told H ask nodes
-  told_same is consistent (Some d) e = dirt_given K (Some d) consistent e ∙ sym (dirt_given H (Some d) consistent e)
-  told_same is consistent None e =
-      dirt_given K None consistent e ∙ told_agrees K H ask nodes (same_entry is e) ∙ sym (dirt_given H None consistent e)
+  trace_same : IsState s → IsTrue ask.barriers.consistent → (o : Option Dirt) → dirt K nodes ≡ o → trace_reply K ask nodes ≡ trace_reply H ask nodes
+  trace_same is consistent (Some d) e = dirt_given K (Some d) consistent e ∙ sym (dirt_given H (Some d) consistent e)
+  trace_same is consistent None e =
+      dirt_given K None consistent e ∙ reply_agrees K H ask nodes (same_entry is e) ∙ sym (dirt_given H None consistent e)
+
+  loops_same : IsState s → (o : Option Dirt) → dirt K nodes ≡ o → loops_reply K ask nodes ≡ loops_reply H ask nodes
+  loops_same is (Some d) e = ap (λ o. loops_given_dirt o K ask nodes) e ∙ sym (ap (λ o. loops_given_dirt o H ask nodes) e)
+  loops_same is None e =
+      ap (λ o. loops_given_dirt o K ask nodes) e
+      ∙ ap (λ segments. Loops segments 0) (same_loops K H refl ask.barriers nodes (same_entry is e))
+      ∙ sym (ap (λ o. loops_given_dirt o H ask nodes) e)
+
+  reply_same : IsState s → IsTrue ask.barriers.consistent → reply_over K ask nodes ≡ reply_over H ask nodes
+  reply_same is consistent =
+      λ i. if is_loops ask.kind then loops_same is (dirt K nodes) refl i else trace_same is consistent (dirt K nodes) refl i
 
 -- in consistent mode the kept topology serves as well as all features: the result is the same, or the refusal for dirty ground
 pub fresh_trace : (s : State) (ask : TypedAsk) → IsState s → IsTrue ask.barriers.consistent → traced (kept_survey s) ask ≡ traced (fresh_survey s) ask
 fresh_trace s ask is consistent =
-    told_same s ask is consistent (dirt (kept_ground s) (reached_from (kept_survey s) ask)) refl
-    ∙ ap (told (fresh_ground_of s) ask)
+    reply_same s ask is consistent
+    ∙ ap (reply_over (fresh_ground_of s) ask)
     (reached_fresh s is ask.barriers (mode_of ask.kind) consistent ask.starts (reached_from (kept_survey s) ask) (kept_reach s ask))
 
 -- in either mode it serves as well as what the history leaves
 pub history_trace : (S : Setup) (history : List Command) (ask : TypedAsk) → MayAllHappen S history → traced (kept_survey (after_all S history)) ask ≡ traced (history_survey S history) ask
 history_trace S history ask may =
     let is = kept_is_history S history may in
-    let nodes = reached_told S history may is ask.barriers (mode_of ask.kind) ask.starts (reached_from (kept_survey (after_all S history)) ask) (kept_reach (after_all S history) ask) in
-    λ i. told (same_ground S history is i) ask (nodes i)
+    let nodes = reached_reply S history may is ask.barriers (mode_of ask.kind) ask.starts (reached_from (kept_survey (after_all S history)) ask) (kept_reach (after_all S history) ask) in
+    λ i. reply_over (same_ground S history is i) ask (nodes i)

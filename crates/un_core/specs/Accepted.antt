@@ -2,12 +2,12 @@
 use Rattle.std.specs.Prelude.{◌≡◌, List, [], ◌++◌, length, None}
 use Rattle.un_schema.specs.Sound.{IsCatalog}
 use Rattle.un_ask.specs.declared.request.Command.{Command}
-use Rattle.un_facts.specs.declared.setup.Setup.{Setup}
+use Rattle.un_tiers.specs.declared.setup.Setup.{Setup}
 use Rattle.un_core.specs.State.{State, opening}
 use Rattle.un_core.specs.Step.{next_state}
 use Rattle.un_core.specs.History.{after_all}
 use Rattle.un_core.specs.Cover.{IsState, MayHappen, MayAllHappen, IsOfHistory}
-use Rattle.un_core.specs.Commands.{first_refusal, state_after, accepted_of}
+use Rattle.un_core.specs.Commands.{command_refusal, state_after, accepted_of}
 
 -- The state is the one after a history whose commands might all happen. So its kept topology and its dirty areas are those of the
 -- history, and each point that no dirty area covers has its fresh star.
@@ -21,7 +21,7 @@ pub record IsAfter (S : Setup) (history : List Command) (s : State) : Type 0 whe
 
 -- a command that is not refused might happen
 abbrev pub MayLaw : Type 0
-MayLaw = (s : State) (c : Command) → IsState s → IsCatalog s.setup.schema → first_refusal s c ≡ None → MayHappen s c
+MayLaw = (s : State) (c : Command) → IsState s → IsCatalog s.setup.schema → command_refusal s c ≡ None → MayHappen s c
 
 -- no command changes the schema or the tiers
 abbrev pub SetupLaw : Type 0

@@ -11,7 +11,7 @@ use Rattle.un_defs.specs.declared.edit.Edit.TheVariants as edit
 use Rattle.un_defs.specs.declared.refusal.Refusal.{Refusal}
 use Rattle.un_defs.specs.declared.refusal.Refusal.TheVariants as refusal
 use Rattle.un_defs.specs.Dirtied.{dirtied}
-use Rattle.un_defs.specs.Dues.{first_due, due_if}
+use Rattle.un_defs.specs.Refusing.{first_refusal, refused_if}
 use Rattle.un_facts.specs.Refusals.{is_of_features}
 use Rattle.un_ask.specs.declared.word.EditWord.{EditWord}
 use Rattle.un_ask.specs.declared.word.EditWord.TheVariants as word
@@ -23,7 +23,7 @@ use Rattle.un_ask.specs.Replies.{IsOfCommand, HasFewIds, HasFewEdits}
 use Rattle.un_core.specs.State.{State}
 use Rattle.un_core.specs.Step.{id_of, ids_of_all, dirtied_by_batch, next_state, dirtied_by}
 use Rattle.un_core.specs.Validation.{met, errors_under}
-use Rattle.un_core.specs.Refusals.{edit_due, batch_due, refused_place, numbers_due}
+use Rattle.un_core.specs.Refusals.{edit_refusal, batch_refusal, refused_place, numbers_refusal}
 
 -- ---- which commands are taken
 
@@ -36,17 +36,17 @@ is_known _ = false
 
 -- any other is refused as one whose word is not known
 abbrev pub unknown : Command → Option Refusal
-unknown c = due_if (not (is_known c)) (refusal.BadRequest place.Do)
+unknown c = refused_if (not (is_known c)) (refusal.BadRequest place.Do)
 
 -- the first refusal of a command that is known
-abbrev pub known_due : State → Command → Option Refusal
-known_due s (command.Edit e) = edit_due s e
-known_due s (command.Batch es) = batch_due s es
-known_due s _ = numbers_due s
+abbrev pub known_refusal : State → Command → Option Refusal
+known_refusal s (command.Edit e) = edit_refusal s e
+known_refusal s (command.Batch es) = batch_refusal s es
+known_refusal s _ = numbers_refusal s
 
 -- the first refusal of a command
-abbrev pub first_refusal : State → Command → Option Refusal
-first_refusal s c = first_due (unknown c ∷ known_due s c ∷ [])
+abbrev pub command_refusal : State → Command → Option Refusal
+command_refusal s c = first_refusal (unknown c ∷ known_refusal s c ∷ [])
 
 -- ---- replies
 
@@ -109,19 +109,19 @@ Stepped = (State × (Reply × List Rectangle)) ⊎ Reply
 
 abbrev pub step : State → Command → Stepped
 step s c =
-    option_map_or (λ r. inr (refusal_reply s c r)) (first_refusal s c) (inl (next_state s c, (accepted s c, dirtied_by s c)))
+    option_map_or (λ r. inr (refusal_reply s c r)) (command_refusal s c) (inl (next_state s c, (accepted s c, dirtied_by s c)))
 
 -- the reply to a command
 abbrev pub command_reply : State → Command → Reply
-command_reply s c = option_map_or (refusal_reply s c) (first_refusal s c) (accepted s c)
+command_reply s c = option_map_or (refusal_reply s c) (command_refusal s c) (accepted s c)
 
 -- the state after it
 abbrev pub state_after : State → Command → State
-state_after s c = option_map_or (λ r. s) (first_refusal s c) (next_state s c)
+state_after s c = option_map_or (λ r. s) (command_refusal s c) (next_state s c)
 
 -- the command, where it is accepted
 abbrev pub accepted_of : State → Command → List Command
-accepted_of s c = option_map_or (λ r. []) (first_refusal s c) (c ∷ [])
+accepted_of s c = option_map_or (λ r. []) (command_refusal s c) (c ∷ [])
 
 -- ---- what is to be shown
 

@@ -1,30 +1,39 @@
 -- What holds of every state, and what is to be shown of it.
-use Rattle.std.specs.Prelude.{◌≡◌, ◌≢◌, ◌<◌, List, [], ◌∷◌, All, ⊤}
+use Rattle.std.specs.Prelude.{◌≡◌, ◌≢◌, ◌<◌, List, [], ◌∷◌, All, Contains, IsTrue, ⊤}
 use Rattle.std.specs.List.Sorted.{IsStrictlySortedBy}
 use Rattle.un_geom.specs.declared.point.Point.{Point}
+use Rattle.un_defs.specs.declared.port.Node.{Node}
+use Rattle.un_defs.specs.declared.link.Tie.{Tie}
 use Rattle.un_defs.specs.declared.edit.Edit.{Edit}
 use Rattle.un_defs.specs.Star.{empty_star}
 use Rattle.un_defs.specs.Sound.{IsSound}
-use Rattle.un_defs.specs.Ground.{AreNumbered}
+use Rattle.un_defs.specs.Ground.{Ground, ties, AreNumbered}
+use Rattle.un_defs.specs.Reach.{is_path}
 use Rattle.un_defs.specs.Laws.{IsCovered, AreNew, MayBeMade}
 use Rattle.un_index.specs.Kept.{stars_of}
 use Rattle.un_ask.specs.declared.request.Command.{Command}
 use Rattle.un_ask.specs.declared.request.Command.TheVariants as command
-use Rattle.un_facts.specs.declared.setup.Setup.{Setup}
+use Rattle.un_tiers.specs.declared.setup.Setup.{Setup}
 use Rattle.un_core.specs.State.{State, kept_ground}
 use Rattle.un_core.specs.Validation.{by_point}
 use Rattle.un_core.specs.Step.{setting, next_with, next_of, made_at, next_state}
 use Rattle.un_core.specs.History.{after_all, dirty_after, kept_after}
 
--- the features are sound, the next ids and numbers are new, and each point that no dirty area covers has its fresh star
+-- each path joins two nodes at one point
+abbrev pub PathsStay : Ground → Type 0
+PathsStay G = (n : Node) (t : Tie) → Contains (ties G n) t → IsTrue (is_path t.name) → t.to.at ≡ n.at
+
+-- The features are sound, the next ids and numbers are new, each point that no dirty area covers has its fresh star, and the paths of all kept
+-- stars stay at their points.
 pub record IsState (s : State) : Type 0 where
   pub sound : IsSound s.setup.schema s.features
   pub fresh_ids : AreNew (next_of s) s.features
   pub numbered : AreNumbered s.areas
   pub numbers : All (λ area. area.0 < s.next_area) s.areas
   pub sorted : IsStrictlySortedBy by_point s.kept
-  pub told : All (λ pair. pair.1 ≢ empty_star) s.kept
+  pub nonempty : All (λ pair. pair.1 ≢ empty_star) s.kept
   pub cover : IsCovered s.setup.schema s.features (kept_ground s)
+  pub paths : PathsStay (kept_ground s)
 
 -- each edit of a batch may be made on what the ones before it left
 abbrev pub MayAllBeMade : State → List Edit → Type 0

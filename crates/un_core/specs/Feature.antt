@@ -30,8 +30,8 @@ abbrev pub path_name : Catalog → Row → Option (List ℕ)
 path_name S r = option_and_then (slice_get (path_names S r.kind)) r.path
 
 -- the row as it stands
-abbrev pub feature_told : Catalog → Row → FeatureReply
-feature_told S r = record {
+abbrev pub feature_of_row : Catalog → Row → FeatureReply
+feature_of_row S r = record {
   attrs = named S r.attrs;
   base = r.moment;
   ends = r.ends;

@@ -9,7 +9,7 @@ use Rattle.un_defs.specs.declared.star.Star.{Star}
 use Rattle.un_defs.specs.Star.{empty_star, standing_points}
 use Rattle.un_defs.specs.Ground.{Ground}
 use Rattle.un_ask.specs.declared.request.Command.{Command}
-use Rattle.un_facts.specs.declared.setup.Setup.{Setup}
+use Rattle.un_tiers.specs.declared.setup.Setup.{Setup}
 use Rattle.un_core.specs.State.{State, opening, fresh_star}
 use Rattle.un_core.specs.Step.{next_state, dirtied_by, extent_of}
 

@@ -8,11 +8,11 @@ use Rattle.un_ask.specs.declared.request.Command.TheVariants.{Validate}
 use Rattle.un_ask.specs.declared.query.Query.{Query}
 use Rattle.un_ask.specs.declared.reply.Reply.{Reply}
 use Rattle.un_ask.specs.declared.reply.Reply.TheVariants as reply
-use Rattle.un_facts.specs.declared.setup.Setup.{Setup}
+use Rattle.un_tiers.specs.declared.setup.Setup.{Setup}
 use Rattle.un_core.specs.Validation.{met}
 use Rattle.un_core.specs.History.{after_all, dirty_after, history_ground, points_before}
 use Rattle.un_core.specs.Cover.{MayAllHappen}
-use Rattle.un_core.specs.Commands.{first_refusal, refusal_reply, accepted, command_reply}
+use Rattle.un_core.specs.Commands.{command_refusal, refusal_reply, accepted, command_reply}
 use Rattle.un_core.specs.Clearing.{fresh_errors}
 use Rattle.un_core.specs.Walked.{Survey}
 use Rattle.un_core.specs.Answers.{Basis, answer, answer_on}
@@ -51,7 +51,7 @@ accepted_after S history c = accepted (after_all S history) c
 -- the reply to a command
 abbrev pub command_reply_after : Setup → List Command → Command → Reply
 command_reply_after S history c =
-    option_map_or (refusal_reply (after_all S history) c) (first_refusal (after_all S history) c) (accepted_after S history c)
+    option_map_or (refusal_reply (after_all S history) c) (command_refusal (after_all S history) c) (accepted_after S history c)
 
 -- the state gives these replies and answers
 abbrev pub ReplyLaw : Type 0

@@ -6,7 +6,7 @@ use Rattle.un_machine.specs.declared.Entry.{Entry}
 use Rattle.un_machine.specs.Logs.{Leads}
 use Rattle.un_ask.specs.declared.request.Command.{Command}
 use Rattle.un_ask.specs.declared.reply.Reply.{Reply}
-use Rattle.un_facts.specs.declared.setup.Setup.{Setup}
+use Rattle.un_tiers.specs.declared.setup.Setup.{Setup}
 use Rattle.un_core.specs.State.{State, opening}
 use Rattle.un_core.specs.Accepted.{IsAfter}
 use Rattle.un_core.specs.Commands.{step}

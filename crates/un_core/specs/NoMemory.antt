@@ -1,29 +1,23 @@
 -- No reply of a network tells of want of memory: that is told apart from all replies.
-use Rattle.std.proofs.Common.{◌≢◌, ℕ, ℤ, ◌+◌, ◌==◌, ◌&&◌, ◌||◌, nat_lt, nat_le, not, map, length, is_some, if◌then◌else◌, Bool, true, false, List, [], ◌∷◌, Option, None, Some, option_map, option_and_then}
+use Rattle.std.proofs.Common.{◌≢◌, ℕ, ◌+◌, ◌||◌, nat_lt, nat_le, not, length, if◌then◌else◌, Bool, true, false, List, [], ◌∷◌, Option, None, Some, option_map}
 use Rattle.std.specs.Prelude.{⊤}
-use Rattle.std.specs.List.{list_all, list_any}
-use Rattle.std.specs.Option.{IfSome, option_map_or}
+use Rattle.std.specs.Option.{option_map_or}
 use Rattle.un_geom.specs.Rectangle.{Rectangle}
-use Rattle.un_schema.specs.declared.kind.Class.{Class}
-use Rattle.un_schema.specs.declared.kind.Kind.{Kind}
-use Rattle.un_schema.specs.declared.place.Place.{Place}
 use Rattle.un_schema.specs.declared.place.Place.TheVariants as place
-use Rattle.un_schema.specs.Catalog.{Catalog, kind_at, kind_named, path_named}
 use Rattle.un_defs.specs.declared.row.Row.{Row}
-use Rattle.un_defs.specs.declared.port.Port.{Port}
 use Rattle.un_defs.specs.declared.port.Node.{Node}
 use Rattle.un_defs.specs.declared.walk.Dirt.{Dirt}
 use Rattle.un_defs.specs.declared.edit.Edit.{Edit}
-use Rattle.un_defs.specs.declared.edit.Edit.TheVariants as edit
 use Rattle.un_defs.specs.declared.refusal.Refusal.{Refusal}
 use Rattle.un_defs.specs.declared.refusal.Refusal.TheVariants as refusal
 use Rattle.un_defs.specs.declared.refusal.Limit.TheVariants as limit
 use Rattle.un_defs.specs.Ground.{Ground}
-use Rattle.un_defs.specs.Features.{Features, is_line, row}
+use Rattle.un_defs.specs.Features.{row}
 use Rattle.un_defs.specs.Dirtied.{dirtied}
 use Rattle.un_defs.specs.Reach.{dirt}
-use Rattle.un_defs.specs.Dues.{first_due, due_if}
-use Rattle.un_facts.proofs.NoMemory.{IsOther, AreOther, first_other, due_where, none_other, edit_other}
+use Rattle.un_defs.specs.Refusing.{first_refusal}
+use Rattle.un_defs.proofs.NoMemory.{IsOther, AreOther, first_other, other_where}
+use Rattle.un_facts.proofs.NoMemory.{none_other, edit_other}
 use Rattle.un_ask.specs.declared.request.Command.{Command}
 use Rattle.un_ask.specs.declared.request.Command.TheVariants as command
 use Rattle.un_ask.specs.declared.word.EditWord.{EditWord}
@@ -31,16 +25,18 @@ use Rattle.un_ask.specs.declared.query.Query.{Query}
 use Rattle.un_ask.specs.declared.query.Asked.{Asked}
 use Rattle.un_ask.specs.declared.query.Asked.TheVariants as asked
 use Rattle.un_ask.specs.declared.typed.TypedAsk.{TypedAsk}
-use Rattle.un_ask.specs.declared.trace.TraceAsk.{TraceAsk}
 use Rattle.un_ask.specs.declared.reply.Reply.{Reply}
 use Rattle.un_ask.specs.declared.reply.Reply.TheVariants as reply
-use Rattle.un_trace.specs.Told.{told, told_over, tells_controllers, controllers_reply, result_reply}
+use Rattle.un_resolve.specs.Resolved.{resolved, resolving_refusal}
+use Rattle.un_resolve.proofs.NoMemory.{resolving_other}
+use Rattle.un_loops.specs.Answer.{loops_reply, loops_given_dirt}
+use Rattle.un_trace.specs.TraceReply.{trace_reply, reply_given_dirt, lists_controllers, controllers_reply, result_reply}
 use Rattle.un_core.specs.State.{State, known}
-use Rattle.un_core.specs.Refusals.{numbers_due, too_many, beside_numbers, first_refused, most_areas, last_number}
+use Rattle.un_core.specs.Refusals.{numbers_refusal, too_many, beside_numbers, first_refused, most_areas, last_number}
 use Rattle.un_core.specs.Step.{made_at, id_of}
-use Rattle.un_core.specs.Commands.{is_known, unknown, known_due, first_refusal, refusal_reply, accepted, word_of, areas_of_edit, edit_reply, command_reply}
-use Rattle.un_core.specs.Answers.{Basis, answer_on, asked_on, traced_on, survey_for, reached_from, at_version, query_due, untaken, untaken_member, starts_due, no_feature, no_start, start_node, start_nodes, connected_from, feature_reply, refused, is_connected, bad_if, too_early}
-use Rattle.un_core.specs.Feature.{feature_told}
+use Rattle.un_core.specs.Commands.{is_known, unknown, known_refusal, command_refusal, refusal_reply, accepted, word_of, areas_of_edit, edit_reply, command_reply}
+use Rattle.un_core.specs.Answers.{Basis, answer_on, asked_on, traced_on, survey_for, reached_from, at_version, query_refusal, untaken, feature_reply, refused, is_taken, too_early, is_loops, reply_over}
+use Rattle.un_core.specs.Feature.{feature_of_row}
 
 -- the reply is none that tells of want of memory
 abbrev pub IsNoMemory : Reply → Type 0
@@ -49,54 +45,54 @@ IsNoMemory other = ⊤
 
 -- ---- commands
 
-numbers_other : (s : State) → IsOther (numbers_due s)
-numbers_other s = due_where
+numbers_other : (s : State) → IsOther (numbers_refusal s)
+numbers_other s = other_where
     (nat_le last_number s.version || nat_le last_number s.next_feature || nat_le last_number s.next_association || nat_le last_number s.next_area)
     (refusal.Full limit.Numbers) (λ e. cc)
 
 areas_other : (areas : List (ℕ × Rectangle)) (rectangles : List Rectangle) → IsOther (too_many areas rectangles)
 areas_other areas [] = none_other
-areas_other areas (r ∷ rs) = due_where (nat_lt most_areas (length areas + length (r ∷ rs))) (refusal.Full limit.Areas) (λ e. cc)
+areas_other areas (r ∷ rs) = other_where (nat_lt most_areas (length areas + length (r ∷ rs))) (refusal.Full limit.Areas) (λ e. cc)
 
 beside_are_other : (s : State) (e : Edit) → AreOther (beside_numbers s e)
 unfolding AreOther
 beside_are_other s e = (edit_other (known s) e, (areas_other s.areas (dirtied s.features e), tt))
 
-beside_other : (s : State) (e : Edit) → IsOther (first_due (beside_numbers s e))
+beside_other : (s : State) (e : Edit) → IsOther (first_refusal (beside_numbers s e))
 beside_other s e = first_other (beside_numbers s e) (beside_are_other s e)
 
 refused_other : (s : State) (place : ℕ) (es : List Edit) → IsOther (option_map (λ p. p.1) (first_refused s place es))
 refused_other s place [] = none_other
-refused_other s place (e ∷ es) = go (first_due (beside_numbers s e)) (beside_other s e) (refused_other (made_at 0 s e) (place + 1) es)
+refused_other s place (e ∷ es) = go (first_refusal (beside_numbers s e)) (beside_other s e) (refused_other (made_at 0 s e) (place + 1) es)
   where
     go : (d : Option Refusal) → IsOther d → IsOther (option_map (λ p. p.1) (first_refused (made_at 0 s e) (place + 1) es))
         → IsOther (option_map (λ p. p.1) (option_map_or (λ r. Some (place, r)) d (first_refused (made_at 0 s e) (place + 1) es)))
-    go None due rest = rest
-    go (Some r) due rest = due
+    go None cause rest = rest
+    go (Some r) cause rest = cause
 
 unknown_other : (c : Command) → IsOther (unknown c)
-unknown_other c = due_where (not (is_known c)) (refusal.BadRequest place.Do) (λ e. cc)
+unknown_other c = other_where (not (is_known c)) (refusal.BadRequest place.Do) (λ e. cc)
 
-known_other : (s : State) (c : Command) → IsOther (known_due s c)
+known_other : (s : State) (c : Command) → IsOther (known_refusal s c)
 unfolding AreOther
-known_other s (command.Edit e) = first_other (numbers_due s ∷ beside_numbers s e) (numbers_other s, beside_are_other s e)
-known_other s (command.Batch es) = first_other (numbers_due s ∷ option_map (λ p. p.1) (first_refused s 0 es) ∷ [])
+known_other s (command.Edit e) = first_other (numbers_refusal s ∷ beside_numbers s e) (numbers_other s, beside_are_other s e)
+known_other s (command.Batch es) = first_other (numbers_refusal s ∷ option_map (λ p. p.1) (first_refused s 0 es) ∷ [])
     (numbers_other s, (refused_other s 0 es, tt))
 known_other s _ = numbers_other s
 
-command_other : (s : State) (c : Command) → IsOther (first_refusal s c)
+command_other : (s : State) (c : Command) → IsOther (command_refusal s c)
 unfolding AreOther
-command_other s c = first_other (unknown c ∷ known_due s c ∷ []) (unknown_other c, (known_other s c, tt))
+command_other s c = first_other (unknown c ∷ known_refusal s c ∷ []) (unknown_other c, (known_other s c, tt))
 
 -- a refusal where one is due, or else a reply
-told_where : (d : Option Refusal) (refuse : Refusal → Reply) (other : Reply) → IsOther d → ((r : Refusal) → r ≢ refusal.Memory → IsNoMemory (refuse r)) → IsNoMemory other
+reply_where : (d : Option Refusal) (refuse : Refusal → Reply) (other : Reply) → IsOther d → ((r : Refusal) → r ≢ refusal.Memory → IsNoMemory (refuse r)) → IsNoMemory other
     → IsNoMemory (option_map_or refuse d other)
 unfolding IsOther
-told_where None refuse other due refused told = told
-told_where (Some r) refuse other due refused told = refused r due
+reply_where None refuse other cause refused rest = rest
+reply_where (Some r) refuse other cause refused rest = refused r cause
 
-edit_told : (s : State) (e : Edit) → IsNoMemory (edit_reply s e)
-edit_told s e = go (word_of e)
+edit_reply_other : (s : State) (e : Edit) → IsNoMemory (edit_reply s e)
+edit_reply_other s e = go (word_of e)
   where
     go : (o : Option EditWord) → IsNoMemory (option_map_or (λ w. reply.Edited (areas_of_edit s e) (id_of s e) w (s.version + 1)) o
         (reply.Ruled (areas_of_edit s e) (length s.features.rules + 1) (s.version + 1)))
@@ -104,38 +100,13 @@ edit_told s e = go (word_of e)
     go (Some w) = tt
 
 pub command_is_no_memory : (s : State) (c : Command) → IsNoMemory (command_reply s c)
-command_is_no_memory s c = told_where (first_refusal s c) (refusal_reply s c) (accepted s c) (command_other s c) (λ r other. other) (at c)
+command_is_no_memory s c = reply_where (command_refusal s c) (refusal_reply s c) (accepted s c) (command_other s c) (λ r other. other) (at c)
   where
     at : (c : Command) → IsNoMemory (accepted s c)
-    at (command.Edit e) = edit_told s e
+    at (command.Edit e) = edit_reply_other s e
     at _ = tt
 
 -- ---- queries
-
-bad_where : (b : Bool) (p : Place) → IsOther (due_if b (refusal.BadRequest p))
-bad_where b p = due_where b (refusal.BadRequest p) (λ e. cc)
-
-member_other : (ask : TraceAsk) → IsOther (untaken_member ask)
-unfolding AreOther
-member_other ask = first_other
-    (bad_if (not (is_connected ask.kind)) place.Ask ∷ bad_if (is_some ask.tier) place.Tier ∷ bad_if (is_some ask.subnet) place.Subnet
-    ∷ bad_if (is_some ask.isolators) place.Isolators ∷ bad_if (is_some ask.barriers) place.Barriers
-    ∷ bad_if (not (length ask.functions == 0)) place.Functions ∷ []) (
-      bad_where (not (is_connected ask.kind)) place.Ask,
-      (
-        bad_where (is_some ask.tier) place.Tier,
-        (
-          bad_where (is_some ask.subnet) place.Subnet,
-          (
-            bad_where (is_some ask.isolators) place.Isolators,
-            (
-              bad_where (is_some ask.barriers) place.Barriers,
-              (bad_where (not (length ask.functions == 0)) place.Functions, tt),
-            ),
-          ),
-        ),
-      ),
-    )
 
 untaken_other : (what : Asked) → IsOther (untaken what)
 unfolding IsOther
@@ -144,56 +115,58 @@ untaken_other (asked.Feature id) = tt
 untaken_other (asked.Dirty extent) = tt
 untaken_other (asked.Errors extent) = tt
 untaken_other (asked.Subnet tier subnet) = λ e. cc
-untaken_other (asked.Trace ask) = member_other ask
+untaken_other (asked.Trace ask) = other_where (not (is_taken ask.kind)) (refusal.BadRequest place.Ask) (λ e. cc)
 
-all_other : (due : Port → Option Refusal) → ((q : Port) → IsOther (due q)) → (starts : List Port) → AreOther (map due starts)
-unfolding AreOther
-all_other due other [] = tt
-all_other due other (q ∷ starts) = (other q, all_other due other starts)
-
-starts_other : (s : State) (starts : List Port) → IsOther (starts_due s starts)
-unfolding AreOther
-starts_other s starts = first_other (first_due (map (no_feature s) starts) ∷ first_due (map (no_start s) starts) ∷ []) (
-  first_other (map (no_feature s) starts) (all_other (no_feature s) (λ q. due_where (not (is_some (row s.features q.feature))) (refusal.NoSuchFeature q.feature) (λ e. cc)) starts),
-  (first_other (map (no_start s) starts) (all_other (no_start s) (λ q. due_where (not (is_some (start_node s q))) (refusal.NoStart q.feature q.number) (λ e. cc)) starts), tt),
-)
-
-told_told : (v : ℕ) (G : Ground) (ask : TypedAsk) (reached : List Node) → IsNoMemory (at_version v (told G ask reached))
-told_told v G ask reached = go (if ask.barriers.consistent then dirt G reached else None)
+trace_other : (v : ℕ) (G : Ground) (ask : TypedAsk) (reached : List Node) → IsNoMemory (at_version v (trace_reply G ask reached))
+trace_other v G ask reached = go (if ask.barriers.consistent then dirt G reached else None)
   where
     clean : (b : Bool) → IsNoMemory (at_version v (if b then controllers_reply G ask reached else result_reply G ask reached))
     clean true = tt
     clean false = tt
 
-    go : (d : Option Dirt) → IsNoMemory (at_version v (told_over d G ask reached))
+    go : (d : Option Dirt) → IsNoMemory (at_version v (reply_given_dirt d G ask reached))
     go (Some d) = λ e. cc
-    go None = clean (tells_controllers ask.kind)
+    go None = clean (lists_controllers ask.kind)
 
-feature_is_told : (s : State) (id : ℕ) → IsNoMemory (feature_reply s id)
-feature_is_told s id = go (row s.features id)
+loops_other : (v : ℕ) (G : Ground) (ask : TypedAsk) (reached : List Node) → IsNoMemory (at_version v (loops_reply G ask reached))
+loops_other v G ask reached = go (dirt G reached)
   where
-    go : (o : Option Row) → IsNoMemory (option_map_or (λ r. reply.Feature (feature_told s.setup.schema r) s.version) o (refused s (refusal.NoSuchFeature id)))
+    go : (d : Option Dirt) → IsNoMemory (at_version v (loops_given_dirt d G ask reached))
+    go (Some d) = λ e. cc
+    go None = tt
+
+reply_over_other : (v : ℕ) (G : Ground) (ask : TypedAsk) (reached : List Node) → IsNoMemory (at_version v (reply_over G ask reached))
+reply_over_other v G ask reached = go (is_loops ask.kind)
+  where
+    go : (b : Bool) → IsNoMemory (at_version v (if b then loops_reply G ask reached else trace_reply G ask reached))
+    go true = loops_other v G ask reached
+    go false = trace_other v G ask reached
+
+feature_reply_other : (s : State) (id : ℕ) → IsNoMemory (feature_reply s id)
+feature_reply_other s id = go (row s.features id)
+  where
+    go : (o : Option Row) → IsNoMemory (option_map_or (λ r. reply.Feature (feature_of_row s.setup.schema r) s.version) o (refused s (refusal.NoSuchFeature id)))
     go None = λ e. cc
     go (Some r) = tt
 
-traced_told : (b : Basis) (ask : TypedAsk) → IsNoMemory (traced_on b ask)
-traced_told b ask =
+traced_other : (b : Basis) (ask : TypedAsk) → IsNoMemory (traced_on b ask)
+traced_other b ask =
     let v = survey_for b ask.barriers.consistent in
-    told_told b.version v.topology ask (reached_from v ask)
+    reply_over_other b.version v.topology ask (reached_from v ask)
 
 pub answer_is_no_memory : (s : State) (b : Basis) (q : Query) → IsNoMemory (answer_on s b q)
 unfolding AreOther
-answer_is_no_memory s b q = told_where (query_due s q) (refused s) (asked_on s b q.what)
+answer_is_no_memory s b q = reply_where (query_refusal s q) (refused s) (asked_on s b q.what)
     (first_other (untaken q.what ∷ too_early s q.seen ∷ [])
-    (untaken_other q.what, (due_where (nat_lt s.version q.seen) (refusal.Ahead q.seen s.version) (λ e. cc), tt)))
+    (untaken_other q.what, (other_where (nat_lt s.version q.seen) (refusal.Ahead q.seen s.version) (λ e. cc), tt)))
     (λ r other. other) (at q.what)
   where
     at : (what : Asked) → IsNoMemory (asked_on s b what)
     at asked.Version = tt
-    at (asked.Feature id) = feature_is_told s id
+    at (asked.Feature id) = feature_reply_other s id
     at (asked.Dirty extent) = tt
     at (asked.Errors extent) = tt
     at (asked.Subnet tier subnet) = λ e. cc
     at (asked.Trace ask) =
-        told_where (starts_due s ask.starts) (refused s) (traced_on b (connected_from ask (start_nodes s ask.starts))) (starts_other s ask.starts) (λ r other. other)
-        (traced_told b (connected_from ask (start_nodes s ask.starts)))
+        reply_where (resolving_refusal s.setup s.features ask) (refused s) (traced_on b (resolved s.setup s.features ask)) (resolving_other s.setup s.features ask) (λ r other. other)
+        (traced_other b (resolved s.setup s.features ask))

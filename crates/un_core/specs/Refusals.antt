@@ -9,7 +9,7 @@ use Rattle.un_defs.specs.declared.refusal.Limit.TheVariants as limit
 use Rattle.un_defs.specs.Dirtied.{dirtied}
 use Rattle.un_ask.specs.declared.reply.Reply.{Reply}
 use Rattle.un_ask.specs.declared.reply.Reply.TheVariants.{Refused}
-use Rattle.un_defs.specs.Dues.{first_due, due_if}
+use Rattle.un_defs.specs.Refusing.{first_refusal, refused_if}
 use Rattle.un_facts.specs.Refusals.{refusal_of}
 use Rattle.un_core.specs.State.{State, known}
 use Rattle.un_core.specs.Step.{made_at}
@@ -19,8 +19,8 @@ abbrev pub last_number : ℕ
 last_number = 9_000_000_000_000_000
 
 -- the versions, the ids or the numbers of areas are used up
-abbrev pub numbers_due : State → Option Refusal
-numbers_due s = due_if
+abbrev pub numbers_refusal : State → Option Refusal
+numbers_refusal s = refused_if
     (nat_le last_number s.version || nat_le last_number s.next_feature || nat_le last_number s.next_association || nat_le last_number s.next_area)
     (refusal.Full limit.Numbers)
 
@@ -31,7 +31,7 @@ most_areas = 65536
 -- with these rectangles there would be too many dirty areas; an edit that makes none is not refused for them
 abbrev pub too_many : List (ℕ × Rectangle) → List Rectangle → Option Refusal
 too_many areas [] = None
-too_many areas (r ∷ rs) = due_if (nat_lt most_areas (length areas + length (r ∷ rs))) (refusal.Full limit.Areas)
+too_many areas (r ∷ rs) = refused_if (nat_lt most_areas (length areas + length (r ∷ rs))) (refusal.Full limit.Areas)
 
 -- what may be due of an edit, in order, beside the numbers, which are looked at once for a command
 abbrev pub beside_numbers : State → Edit → List (Option Refusal)
@@ -41,21 +41,21 @@ beside_numbers s e =
     ∷ []
 
 -- the first refusal of an edit
-abbrev pub edit_due : State → Edit → Option Refusal
-edit_due s e = first_due (numbers_due s ∷ beside_numbers s e)
+abbrev pub edit_refusal : State → Edit → Option Refusal
+edit_refusal s e = first_refusal (numbers_refusal s ∷ beside_numbers s e)
 
 -- the first refusal of the edits of a batch, each looked at where the ones before it were made, with the place of the edit
 abbrev pub first_refused : State → ℕ → List Edit → Option (ℕ × Refusal)
 first_refused s place [] = None
 first_refused s place (e ∷ es) =
-    option_map_or (λ r. Some (place, r)) (first_due (beside_numbers s e)) (first_refused (made_at 0 s e) (place + 1) es)
+    option_map_or (λ r. Some (place, r)) (first_refusal (beside_numbers s e)) (first_refused (made_at 0 s e) (place + 1) es)
 
-abbrev pub batch_due : State → List Edit → Option Refusal
-batch_due s es = first_due (numbers_due s ∷ option_map (λ p. p.1) (first_refused s 0 es) ∷ [])
+abbrev pub batch_refusal : State → List Edit → Option Refusal
+batch_refusal s es = first_refusal (numbers_refusal s ∷ option_map (λ p. p.1) (first_refused s 0 es) ∷ [])
 
 -- the place of the edit that is refused, which the numbers have not
 abbrev pub refused_place : State → List Edit → Option ℕ
-refused_place s es = option_map_or (λ r. None) (numbers_due s) (option_map (λ p. p.0) (first_refused s 0 es))
+refused_place s es = option_map_or (λ r. None) (numbers_refusal s) (option_map (λ p. p.0) (first_refused s 0 es))
 
 -- the reply that tells of a refusal
 abbrev pub refused : State → Refusal → Reply

@@ -6,7 +6,7 @@ use Rattle.un_ask.specs.declared.request.Request.{Request}
 use Rattle.un_ask.specs.declared.request.Request.TheVariants as request
 use Rattle.un_ask.specs.declared.query.Query.{Query}
 use Rattle.un_ask.specs.declared.reply.Reply.{Reply}
-use Rattle.un_facts.specs.declared.setup.Setup.{Setup}
+use Rattle.un_tiers.specs.declared.setup.Setup.{Setup}
 use Rattle.un_core.specs.State.{State}
 use Rattle.un_core.specs.Commands.{command_reply, state_after, accepted_of}
 use Rattle.un_core.specs.Answers.{answer, answer_on, kept_survey, fresh_survey, kept_basis, fresh_basis}

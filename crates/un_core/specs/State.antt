@@ -8,7 +8,7 @@ use Rattle.un_defs.specs.Features.{Features}
 use Rattle.un_defs.specs.Ground.{Ground, fresh_ground}
 use Rattle.un_index.specs.Kept.{stars_of}
 use Rattle.un_ask.specs.declared.stored.StoredSubnet.{StoredSubnet}
-use Rattle.un_facts.specs.declared.setup.Setup.{Setup}
+use Rattle.un_tiers.specs.declared.setup.Setup.{Setup}
 use Rattle.un_facts.specs.declared.ids.NextIds.{NextIds}
 use Rattle.un_facts.specs.Known.{Known}
 

@@ -48,23 +48,23 @@ made_by_all s [] = s
 made_by_all s (e ∷ es) = made_by_all (made_at 0 s e) es
 
 -- the id that the reply to an edit tells: that of the feature that it makes or changes, or of the association
-abbrev pub told_id : NextIds → Edit → ℕ
-told_id ids (edit.Insert kind points attrs flow ends note) = ids.feature
-told_id ids (edit.Reshape id base points) = id
-told_id ids (edit.Attrs id base attrs) = id
-told_id ids (edit.Kind id base kind) = id
-told_id ids (edit.Path id base path) = id
-told_id ids (edit.Flow id base flow) = id
-told_id ids (edit.Ends id base ends) = id
-told_id ids (edit.Note id base note) = id
-told_id ids (edit.Delete id base) = id
-told_id ids (edit.Detach assoc) = assoc
-told_id ids (edit.Controller id terminal tier subnet) = id
-told_id ids (edit.Uncontroller id terminal) = id
-told_id ids _ = ids.association
+abbrev pub reply_id : NextIds → Edit → ℕ
+reply_id ids (edit.Insert kind points attrs flow ends note) = ids.feature
+reply_id ids (edit.Reshape id base points) = id
+reply_id ids (edit.Attrs id base attrs) = id
+reply_id ids (edit.Kind id base kind) = id
+reply_id ids (edit.Path id base path) = id
+reply_id ids (edit.Flow id base flow) = id
+reply_id ids (edit.Ends id base ends) = id
+reply_id ids (edit.Note id base note) = id
+reply_id ids (edit.Delete id base) = id
+reply_id ids (edit.Detach assoc) = assoc
+reply_id ids (edit.Controller id terminal tier subnet) = id
+reply_id ids (edit.Uncontroller id terminal) = id
+reply_id ids _ = ids.association
 
 abbrev pub id_of : State → Edit → ℕ
-id_of s e = told_id (next_ids s) e
+id_of s e = reply_id (next_ids s) e
 
 -- the row that an edit makes or changes; an association, a controller and a rule change none
 abbrev pub touched_row : NextIds → Edit → Option ℕ
@@ -75,7 +75,7 @@ touched_row ids (edit.Detach assoc) = None
 touched_row ids (edit.Controller id terminal tier subnet) = None
 touched_row ids (edit.Uncontroller id terminal) = None
 touched_row ids (edit.Rule rule) = None
-touched_row ids e = Some (told_id ids e)
+touched_row ids e = Some (reply_id ids e)
 
 abbrev pub touched : State → Edit → List ℕ
 touched s e = option_to_list (touched_row (next_ids s) e)

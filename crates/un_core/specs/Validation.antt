@@ -60,4 +60,4 @@ AreRebuilt s points kept = (p : Point) → stars_of kept p ≡ (if list_any (sam
 -- a list of points with their stars as it is kept: in order, and without empty stars
 pub record IsKept (kept : List (Point × Star)) : Type 0 where
   pub sorted : IsStrictlySortedBy by_point kept
-  pub told : All (λ pair. pair.1 ≢ empty_star) kept
+  pub nonempty : All (λ pair. pair.1 ≢ empty_star) kept

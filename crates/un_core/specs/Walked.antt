@@ -1,26 +1,12 @@
 -- The nodes that walks reach, as a list.
-use Rattle.std.specs.Prelude.{ℕ, zero, suc, Bool, List, ◌++◌, filter, flat_map, map, length}
-use Rattle.std.specs.List.{list_any}
+use Rattle.std.specs.Prelude.{List, flat_map, map}
 use Rattle.un_geom.specs.declared.point.Point.{Point}
 use Rattle.un_defs.specs.declared.port.Node.{Node}
 use Rattle.un_defs.specs.declared.walk.Mode.{Mode}
 use Rattle.un_defs.specs.declared.walk.Barriers.{Barriers}
-use Rattle.un_defs.specs.Orders.{rising, node_cmp}
 use Rattle.un_defs.specs.Ground.{Ground}
 use Rattle.un_defs.specs.Reach.{leads}
-
--- some nodes, and those of all nodes to which a step leads from one of them
-abbrev pub one_further : (Node → Node → Bool) → List Node → List Node → List Node
-one_further step all from = from ++ filter (λ m. list_any (λ n. step n m) from) all
-
--- what walks of at most so many steps reach
-abbrev pub reached_within : (Node → Node → Bool) → List Node → ℕ → List Node → List Node
-reached_within step all zero starts = starts
-reached_within step all (suc k) starts = one_further step all (reached_within step all k starts)
-
--- the nodes that walks reach, sorted: none needs more steps than there are nodes
-abbrev pub reached_in : (Node → Node → Bool) → List Node → List Node → List Node
-reached_in step all starts = rising node_cmp (reached_within step all (length all) starts)
+use Rattle.un_walk.specs.Spread.{reached_in}
 
 -- a topology with the dirty areas, and points among which are all that have a star
 pub record Survey : Type 0 where

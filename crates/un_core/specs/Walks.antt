@@ -7,7 +7,7 @@ use Rattle.un_defs.specs.declared.walk.Barriers.{Barriers}
 use Rattle.un_defs.specs.Reach.{IsReach, leads}
 use Rattle.un_ask.specs.declared.request.Command.{Command}
 use Rattle.un_ask.specs.declared.query.Query.{Query}
-use Rattle.un_facts.specs.declared.setup.Setup.{Setup}
+use Rattle.un_tiers.specs.declared.setup.Setup.{Setup}
 use Rattle.un_core.specs.State.{State}
 use Rattle.un_core.specs.Cover.{IsState, MayAllHappen}
 use Rattle.un_core.specs.Walked.{Survey, reached}

@@ -1,42 +1,39 @@
 //! What queries are answered.
-ghost use Rattle.std.specs.Prelude.{◌≡◌, ◌+◌, ◌*◌, ◌≤◌, length, None, IfOk, OnOk};
+ghost use Rattle.std.specs.Prelude.{◌≡◌, ◌≢◌, ◌+◌, ◌*◌, ◌≤◌, true, length, None, Contains, IfOk, OnOk};
 ghost use Rattle.un_ask.specs.declared.query.Asked.TheVariants.{Trace};
-ghost use Rattle.un_trace.specs.Told.{MayTell};
+ghost use Rattle.un_defs.specs.declared.port.Node.{Node};
+ghost use Rattle.un_defs.specs.Ports.{nodes};
+ghost use Rattle.un_defs.specs.declared.refusal.Refusal.TheVariants.{Memory};
+ghost use Rattle.un_trace.specs.TraceReply.{IsAnswerable};
+ghost use Rattle.un_loops.specs.Answer.{IsForLoops};
 ghost use Rattle.un_core.specs.Cover.{IsState};
 ghost use Rattle.un_core.specs.Listed.{errors_in};
-ghost use Rattle.un_core.specs.Answers.{untaken, untaken_member, query_due, refused, at_version, connected_from, kept_survey, kept_basis, fresh_basis, reached_from, traced, connected, asked_on, answer_on, answer, reached_by};
+ghost use Rattle.un_core.specs.Answers.{is_taken, is_loops, MayWalk, untaken, query_refusal, refused, at_version, kept_survey, kept_basis, fresh_basis, reached_from, traced, trace_on, asked_on, answer_on, answer, reached_by};
 
 use crate::kept::Kept;
 use crate::net::Net;
 use std::alloc::{AllocError, Global};
-use un_ask::{Areas, Asked, Funcs, PlacedErrors, Query, Reply, TraceAsk, TraceKind, TypedAsk};
-use un_defs::port::{Nodes, Ports};
-use un_defs::{Barriers, Node, Port, Refusal};
+use un_ask::{Areas, Asked, PlacedErrors, Query, Reply, TraceAsk, TraceKind, TypedAsk};
+use un_defs::Refusal;
 use un_geom::Rect;
+use un_loops::loops;
+use un_resolve::resolve;
 use un_schema::Place;
 use un_steps::Steps;
 use un_trace::trace;
 
-/// Why a trace is not answered: its kind, or a member that is not taken.
-fn untaken_member(ask: &TraceAsk) -> Option<Refusal>
-    ensures { result ≡ untaken_member ask.now }
+/// Traces of the kind are answered.
+fn is_taken(kind: TraceKind) -> bool
+    ensures { result ≡ is_taken kind }
 {
-    let place = if !matches!(ask.kind, TraceKind::Connected) {
-        Place::Ask
-    } else if ask.tier.is_some() {
-        Place::Tier
-    } else if ask.subnet.is_some() {
-        Place::Subnet
-    } else if ask.isolators.is_some() {
-        Place::Isolators
-    } else if ask.barriers.is_some() {
-        Place::Barriers
-    } else if !ask.functions.as_slice().is_empty() {
-        Place::Functions
-    } else {
-        return None;
-    };
-    Some(Refusal::BadRequest { place })
+    !matches!(kind, TraceKind::Isolation)
+}
+
+/// A trace of the kind asks for loops.
+fn is_loops(kind: TraceKind) -> bool
+    ensures { result ≡ is_loops kind }
+{
+    matches!(kind, TraceKind::Loops)
 }
 
 /// Why what is asked is not answered.
@@ -45,16 +42,18 @@ fn untaken(what: &Asked) -> Option<Refusal>
 {
     match what {
         Asked::Version | Asked::Feature { .. } | Asked::Dirty { .. } | Asked::Errors { .. } => None,
-        Asked::Subnet { .. } => Some(Refusal::BadRequest { place: Place::Ask }),
-        Asked::Trace(ask) => untaken_member(ask),
+        Asked::Trace(ask) if is_taken(ask.kind) => None,
+        Asked::Subnet { .. } | Asked::Trace(_) => {
+            Some(Refusal::BadRequest { place: Place::Ask })
+        }
     }
 }
 
 /// What a trace answers, with the version of the state.
-fn at_version(told: Reply, version: u64) -> Reply
-    ensures { result ≡ at_version version told }
+fn at_version(reply: Reply, version: u64) -> Reply
+    ensures { result ≡ at_version version reply }
 {
-    match told {
+    match reply {
         Reply::Traced { result, version: _ } => Reply::Traced { result, version },
         Reply::Controllers {
             controllers,
@@ -89,33 +88,10 @@ fn at_version(told: Reply, version: u64) -> Reply
     }
 }
 
-/// The connected trace from these nodes.
-fn connected_from(alloc: Global, ask: &TraceAsk, starts: Vec<Node>) -> Result<TypedAsk, AllocError>
-    ensures { IfOk result (λ t. t ≡ connected_from ask.now starts.items) }
-{
-    let stops = ask.stops.as_slice().to_vec(alloc)?;
-    Ok(TypedAsk {
-        kind: TraceKind::Connected,
-        starts: Nodes::new(starts),
-        barriers: Barriers {
-            request: None,
-            of_tier: None,
-            stops: Ports::new(stops),
-            tier: None,
-            consistent: ask.consistent,
-        },
-        isolators: None,
-        subnet: None,
-        disjoint: false,
-        include: ask.include,
-        functions: Funcs::new(Vec::new(alloc)),
-    })
-}
-
 impl Net {
     /// The first refusal of a query.
-    fn query_due(&self, query: &Query) -> Option<Refusal>
-        ensures due { result ≡ query_due self.now query.now }
+    fn query_refusal(&self, query: &Query) -> Option<Refusal>
+        ensures cause { result ≡ query_refusal self.now query.now }
         ensures state { IsState self.now }
     {
         let latest = self.version;
@@ -160,32 +136,81 @@ impl Net {
         ask: &TypedAsk,
         steps: &mut Steps<L>,
     ) -> Result<Reply, AllocError>
-        requires kind { MayTell ask.now.kind ask.now.barriers.tier }
-        requires plain { ask.now.barriers.tier ≡ None }
+        requires kind { IsAnswerable ask.now.kind ask.now.barriers.tier }
         ensures reply { IfOk result (λ reply. reply ≡ traced (kept_survey self.now) ask.now) }
         ensures ticks { OnOk result (steps.new ≤ steps.old + 2 * length (reached_from (kept_survey self.now) ask.now)) }
     {
+        // For the proof alone.
+        let _version = self.version();
         let kept = self.kept();
         trace(alloc, &kept, ask, steps)
     }
 
-    /// The answer of a connected trace.
+    /// The answer of a trace for loops over what is kept, with version 0.
+    fn loops_kept<L>(
+        &self,
+        alloc: Global,
+        ask: &TypedAsk,
+        steps: &mut Steps<L>,
+    ) -> Result<Reply, AllocError>
+        requires kind { IsForLoops ask.now }
+        requires starts { (n : Node) → Contains ask.now.starts n → Contains (nodes self.now.features) n }
+        ensures reply { IfOk result (λ reply. reply ≡ traced (kept_survey self.now) ask.now) }
+        ensures ticks { OnOk result (steps.new ≤ steps.old + 2 * length (reached_from (kept_survey self.now) ask.now)) }
+    {
+        // For the proof alone.
+        let _version = self.version();
+        let kept = self.kept();
+        loops(alloc, &kept, ask, steps)
+    }
+
+    /// The answer of a trace by numbers and nodes, with version 0.
+    fn walked<L>(
+        &self,
+        alloc: Global,
+        ask: &TypedAsk,
+        steps: &mut Steps<L>,
+    ) -> Result<Reply, AllocError>
+        requires { MayWalk self.now.features ask.now }
+        ensures reply { IfOk result (λ reply. reply ≡ traced (kept_survey self.now) ask.now) }
+        ensures ticks { OnOk result (steps.new ≤ steps.old + 2 * length (reached_from (kept_survey self.now) ask.now)) }
+    {
+        if is_loops(ask.kind) {
+            self.loops_kept(alloc, ask, steps)
+        } else {
+            self.trace_kept(alloc, ask, steps)
+        }
+    }
+
+    /// The reply that tells of a refusal, unless it is one of want of memory.
+    fn refused_by(&self, refusal: Refusal) -> Result<Reply, AllocError>
+        ensures reply { IfOk result (λ reply. reply ≡ refused self.now refusal) }
+        ensures other { OnOk result (refusal ≢ Memory) }
+    {
+        match refusal {
+            Refusal::Memory => Err(AllocError),
+            other => Ok(self.refused(other)),
+        }
+    }
+
+    /// The answer of a trace.
     fn traced<L>(
         &self,
         alloc: Global,
         ask: &TraceAsk,
         steps: &mut Steps<L>,
     ) -> Result<Reply, AllocError>
-        ensures reply { IfOk result (λ reply. reply ≡ connected self.now (kept_basis self.now) ask.now) }
+        requires { is_taken ask.now.kind ≡ true }
+        ensures reply { IfOk result (λ reply. reply ≡ trace_on self.now (kept_basis self.now) ask.now) }
         ensures ticks { OnOk result (steps.new ≤ steps.old + 2 * length (reached_by self.now (Trace ask.now))) }
     {
-        let starts = match self.start_nodes(alloc, ask.starts.as_slice())? {
-            Ok(starts) => starts,
-            Err(refusal) => return Ok(self.refused(refusal)),
-        };
-        let typed = connected_from(alloc, ask, starts)?;
-        let told = self.trace_kept(alloc, &typed, steps)?;
-        Ok(at_version(told, self.version))
+        match resolve(alloc, self.facts.setup(), &self.facts, ask) {
+            Ok(typed) => {
+                let reply = self.walked(alloc, &typed, steps)?;
+                Ok(at_version(reply, self.version))
+            }
+            Err(refusal) => self.refused_by(refusal),
+        }
     }
 
     /// The errors of the kept topology at the points that the extent covers.
@@ -196,7 +221,7 @@ impl Net {
     }
 
     /// What is asked, where the query is not refused before.
-    fn told<L>(
+    fn accepted_reply<L>(
         &self,
         alloc: Global,
         what: &Asked,
@@ -225,11 +250,10 @@ impl Net {
 
     /// What a query is answered. It changes nothing.
     ///
-    /// In this order it is refused: `BadRequest` where it asks for a subnetwork, for a trace that is not a connected one, or by a
-    /// member that is not taken; `Ahead` where it wants a later version; and then the query for a feature by `NoSuchFeature`, where
-    /// none with the id is live, and a trace by the first start that is none, `NoSuchFeature` where its feature is not live and
-    /// `NoStart` where that has no such port, and by `DirtyGround`, in consistent mode where a dirty area covers a node that is
-    /// reached. `steps` counts the stars that are looked up. It answers an error only for want of memory.
+    /// In this order it is refused: `BadRequest` where it asks for a subnetwork or for a trace of isolation; `Ahead` where it wants
+    /// a later version; and then the query for a feature by `NoSuchFeature`, where none with the id is live, and a trace as `un_resolve`
+    /// refuses it, or by `DirtyGround`, in consistent mode where a dirty area covers a node that is reached. `steps` counts the stars that
+    /// are looked up. It answers an error only for want of memory.
     pub fn answer<L>(
         &self,
         alloc: Global,
@@ -242,9 +266,9 @@ impl Net {
         // For each node that a trace reaches, one star is looked up for the walk and one for the answer.
         ensures ticks { OnOk result (steps.new ≤ steps.old + 2 * length (reached_by self.now query.now.what)) }
     {
-        match self.query_due(query) {
+        match self.query_refusal(query) {
             Some(refusal) => Ok(self.refused(refusal)),
-            None => self.told(alloc, &query.what, steps),
+            None => self.accepted_reply(alloc, &query.what, steps),
         }
     }
 }

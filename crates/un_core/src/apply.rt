@@ -11,7 +11,7 @@ ghost use Rattle.un_core.specs.Commands.{is_known, word_of, first_and_count, ste
 ghost use Rattle.un_machine.specs.Logs.{answer_of};
 
 use crate::batch::{BatchFault, Batched};
-use crate::edit::{Edited, told_id};
+use crate::edit::{Edited, reply_id};
 use crate::net::Net;
 use crate::validate::Validated;
 use std::alloc::{AllocError, Global};
@@ -113,7 +113,7 @@ impl Net {
             Ok(Edited { net, dirtied }) => {
                 let reply = Reply::Edited {
                     areas: self.areas_made(&net),
-                    id: told_id(edit, self.ids),
+                    id: reply_id(edit, self.ids),
                     word,
                     version: net.version,
                 };

@@ -1,13 +1,17 @@
 //! Batches of edits.
-ghost use Rattle.std.specs.Prelude.{◌≡◌, ◌≢◌, ◌<◌, ◌≤◌, ◌++◌, true, length, All, Some, None, IfOk, OnOk, IfErr, option_to_list};
+ghost use Rattle.std.specs.Prelude.{◌≡◌, ◌≢◌, ◌<◌, ◌≤◌, ◌++◌, ◌∷◌, [], true, length, All, Some, None, IfOk, OnOk, IfErr, option_to_list};
 ghost use Rattle.std.specs.Option.{option_map};
 ghost use Rattle.un_defs.specs.declared.refusal.Refusal.TheVariants.{Memory};
+ghost use Rattle.un_defs.specs.Laws.{MayBeMade};
+ghost use Rattle.un_defs.specs.Refusing.{first_refusal};
+ghost use Rattle.un_defs.specs.Dirtied.{dirtied};
 ghost use Rattle.un_facts.specs.Refusals.{is_of_features};
-ghost use Rattle.un_core.specs.Step.{made_by_all, ids_of_all, touched_by_all, dirtied_by_batch, batched};
+ghost use Rattle.un_core.specs.Step.{setting, next_with, made_at, id_of, touched, made_by_all, ids_of_all, touched_by_all, dirtied_by_batch, batched};
 ghost use Rattle.un_core.specs.Cover.{MayAllBeMade};
-ghost use Rattle.un_core.specs.Refusals.{first_refused, batch_due, refused_place};
+ghost use Rattle.un_core.specs.Making.{FeaturesGrow, AssociationsGrow, AreasGrow};
+ghost use Rattle.un_core.specs.Refusals.{beside_numbers, first_refused, batch_refusal, refused_place};
 
-use crate::edit::{told_id, touched_row};
+use crate::edit::{Edited, reply_id, touched_row};
 use crate::net::Net;
 use std::alloc::{AllocError, Global};
 use un_defs::{Edit, Refusal};
@@ -54,6 +58,34 @@ fn add(ids: &mut Vec<u64>, id: Option<u64>) -> Result<(), AllocError>
     Ok(())
 }
 
+impl Batched {
+    // Makes one edit more at the moment 0. Where it is refused, what is left is of no use.
+    fn make(&mut self, alloc: Global, edit: &Edit) -> Result<(), Refusal>
+        requires word { is_of_features edit.now ≡ true }
+        requires feature { self.old.net.next_feature < 9_000_000_000_100_000 }
+        requires association { self.old.net.next_association < 9_000_000_000_100_000 }
+        requires area { self.old.net.next_area < 9_000_000_000_100_000 }
+        ensures net { OnOk result (self.new.net ≡ made_at 0 self.old.net edit.now) }
+        ensures ids { OnOk result (self.new.ids.items ≡ self.old.ids.items ++ id_of self.old.net edit.now ∷ []) }
+        ensures touched { OnOk result (self.new.touched.items ≡ self.old.touched.items ++ touched self.old.net edit.now) }
+        ensures dirtied { OnOk result (self.new.dirtied.items ≡ self.old.dirtied.items ++ dirtied self.old.net.features edit.now) }
+        ensures features { OnOk result (FeaturesGrow self.old.net self.new.net) }
+        ensures associations { OnOk result (AssociationsGrow self.old.net self.new.net) }
+        ensures areas { OnOk result (AreasGrow self.old.net self.new.net) }
+        ensures may { OnOk result (MayBeMade (setting self.old.net) (next_with self.old.net 0) self.old.net.features edit.now) }
+        ensures good { OnOk result (first_refusal (beside_numbers self.old.net edit.now) ≡ None) }
+        ensures bad { IfErr result (λ refusal. refusal ≢ Memory → first_refusal (beside_numbers self.old.net edit.now) ≡ Some refusal) }
+    {
+        let ids = self.net.next_ids();
+        add(&mut self.ids, Some(reply_id(edit, ids)))?;
+        add(&mut self.touched, touched_row(edit, ids))?;
+        let Edited { net, dirtied } = self.net.make(alloc, edit, 0)?;
+        self.net = net;
+        self.dirtied.extend_from_slice(&dirtied)?;
+        Ok(())
+    }
+}
+
 impl Net {
     // The same network, which shares what it holds.
     fn share(&self) -> Result<Net, AllocError>
@@ -65,6 +97,21 @@ impl Net {
             dirty: self.dirty.share()?,
             version: self.version,
             ids: self.ids,
+        })
+    }
+
+    // A batch of no edits.
+    fn begun(&self, alloc: Global) -> Result<Batched, AllocError>
+        ensures net { IfOk result (λ b. b.net ≡ self.now) }
+        ensures ids { IfOk result (λ b. b.ids.items ≡ []) }
+        ensures touched { IfOk result (λ b. b.touched.items ≡ []) }
+        ensures dirtied { IfOk result (λ b. b.dirtied.items ≡ []) }
+    {
+        Ok(Batched {
+            net: self.share()?,
+            ids: Vec::new(alloc),
+            touched: Vec::new(alloc),
+            dirtied: Vec::new(alloc),
         })
     }
 
@@ -85,32 +132,16 @@ impl Net {
         ensures bad { IfErr result (λ f. f.refusal ≢ Memory →
             (option_map (λ p. p.1) (first_refused self.now 0 edits.now) ≡ Some f.refusal) × (option_map (λ p. p.0) (first_refused self.now 0 edits.now) ≡ f.place)) }
     {
-        let mut net = self.share()?;
-        let mut ids = Vec::new(alloc);
-        let mut touched = Vec::new(alloc);
-        let mut dirtied = Vec::new(alloc);
+        let mut batched = self.begun(alloc)?;
         for (place, edit) in edits.iter().enumerate() {
-            add(&mut ids, Some(told_id(edit, net.ids)))?;
-            add(&mut touched, touched_row(edit, net.ids))?;
-            match net.make(alloc, edit, 0) {
-                Ok(made) => {
-                    dirtied.extend_from_slice(&made.dirtied)?;
-                    net = made.net;
-                }
-                Err(refusal) => {
-                    return Err(BatchFault {
-                        place: Some(place as u64),
-                        refusal,
-                    });
-                }
+            if let Err(refusal) = batched.make(alloc, edit) {
+                return Err(BatchFault {
+                    place: Some(place as u64),
+                    refusal,
+                });
             }
         }
-        Ok(Batched {
-            net,
-            ids,
-            touched,
-            dirtied,
-        })
+        Ok(batched)
     }
 
     /// The network after a batch of edits, which is one step.
@@ -125,8 +156,8 @@ impl Net {
         ensures state { IfOk result (λ b. b.net ≡ batched self.now edits.now) }
         ensures ids { IfOk result (λ b. b.ids.items ≡ ids_of_all self.now edits.now) }
         ensures dirtied { IfOk result (λ b. b.dirtied.items ≡ dirtied_by_batch self.now edits.now) }
-        ensures good { OnOk result (batch_due self.now edits.now ≡ None) }
-        ensures bad { IfErr result (λ f. f.refusal ≢ Memory → (batch_due self.now edits.now ≡ Some f.refusal) × (refused_place self.now edits.now ≡ f.place)) }
+        ensures good { OnOk result (batch_refusal self.now edits.now ≡ None) }
+        ensures bad { IfErr result (λ f. f.refusal ≢ Memory → (batch_refusal self.now edits.now ≡ Some f.refusal) × (refused_place self.now edits.now ≡ f.place)) }
     {
         if let Err(refusal) = self.check_numbers() {
             return Err(BatchFault {

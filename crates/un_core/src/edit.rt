@@ -2,12 +2,12 @@
 ghost use Rattle.std.specs.Prelude.{◌≡◌, ◌≢◌, ◌<◌, ◌≤◌, ◌+◌, true, length, Some, None, IfOk, OnOk, IfErr};
 ghost use Rattle.un_defs.specs.declared.refusal.Refusal.TheVariants.{Memory};
 ghost use Rattle.un_defs.specs.Laws.{MayBeMade};
-ghost use Rattle.un_defs.specs.Dues.{first_due};
+ghost use Rattle.un_defs.specs.Refusing.{first_refusal};
 ghost use Rattle.un_defs.specs.Dirtied.{dirtied};
 ghost use Rattle.un_dirty.specs.Areas.{added};
 ghost use Rattle.un_facts.specs.Refusals.{is_of_features};
-ghost use Rattle.un_core.specs.Step.{setting, next_with, made_at, edited, told_id, touched_row};
-ghost use Rattle.un_core.specs.Refusals.{beside_numbers, edit_due, too_many};
+ghost use Rattle.un_core.specs.Step.{setting, next_with, made_at, edited, reply_id, touched_row};
+ghost use Rattle.un_core.specs.Refusals.{beside_numbers, edit_refusal, too_many};
 ghost use Rattle.un_core.specs.Making.{AreasGrow, FeaturesGrow, AssociationsGrow};
 
 use crate::net::Net;
@@ -28,8 +28,8 @@ pub(crate) struct Edited {
 }
 
 /// The id that the reply to an edit tells: that of the feature that it makes or changes, or of the association.
-pub(crate) fn told_id(edit: &Edit, ids: NextIds) -> u64
-    ensures { result ≡ told_id ids edit.now }
+pub(crate) fn reply_id(edit: &Edit, ids: NextIds) -> u64
+    ensures { result ≡ reply_id ids edit.now }
 {
     match edit {
         Edit::Reshape { id, .. }
@@ -63,7 +63,7 @@ pub(crate) fn touched_row(edit: &Edit, ids: NextIds) -> Option<u64>
         | Edit::Flow { .. }
         | Edit::Ends { .. }
         | Edit::Note { .. }
-        | Edit::Delete { .. } => Some(told_id(edit, ids)),
+        | Edit::Delete { .. } => Some(reply_id(edit, ids)),
         Edit::Connect { .. }
         | Edit::Contain { .. }
         | Edit::Attach { .. }
@@ -106,8 +106,8 @@ impl Net {
         ensures associations { IfOk result (λ m. AssociationsGrow self.now m.net) }
         ensures areas { IfOk result (λ m. AreasGrow self.now m.net) }
         ensures may { OnOk result (MayBeMade (setting self.now) (next_with self.now moment) self.now.features edit.now) }
-        ensures good { OnOk result (first_due (beside_numbers self.now edit.now) ≡ None) }
-        ensures bad { IfErr result (λ refusal. refusal ≢ Memory → first_due (beside_numbers self.now edit.now) ≡ Some refusal) }
+        ensures good { OnOk result (first_refusal (beside_numbers self.now edit.now) ≡ None) }
+        ensures bad { IfErr result (λ refusal. refusal ≢ Memory → first_refusal (beside_numbers self.now edit.now) ≡ Some refusal) }
     {
         let Made { facts, dirtied } = self.facts.edit(alloc, edit, self.ids, moment)?;
         let dirty = with_areas(&self.dirty, alloc, &dirtied)?;
@@ -136,8 +136,8 @@ impl Net {
         requires word { is_of_features edit.now ≡ true }
         ensures state { IfOk result (λ m. m.net ≡ edited self.now edit.now) }
         ensures dirtied { IfOk result (λ m. m.dirtied.items ≡ dirtied self.now.features edit.now) }
-        ensures good { OnOk result (edit_due self.now edit.now ≡ None) }
-        ensures bad { IfErr result (λ refusal. refusal ≢ Memory → edit_due self.now edit.now ≡ Some refusal) }
+        ensures good { OnOk result (edit_refusal self.now edit.now ≡ None) }
+        ensures bad { IfErr result (λ refusal. refusal ≢ Memory → edit_refusal self.now edit.now ≡ Some refusal) }
     {
         self.check_numbers()?;
         let moment = self.version + 1;

@@ -1,7 +1,7 @@
 //! A feature as a query tells it.
 ghost use Rattle.std.specs.Prelude.{◌≡◌, ◌<◌, length, map, Some, IfOk, IfSome};
 ghost use Rattle.un_schema.specs.Catalog.{path_names};
-ghost use Rattle.un_core.specs.Feature.{with_name, named, path_name, feature_told};
+ghost use Rattle.un_core.specs.Feature.{with_name, named, path_name, feature_of_row};
 ghost use Rattle.un_facts.specs.Attributes.{HasAttributes, HasNames};
 ghost use Rattle.un_core.specs.Named.{pair_of};
 ghost use Rattle.un_core.specs.Answers.{feature_reply};
@@ -99,9 +99,9 @@ fn path_name(alloc: Global, schema: &Schema, row: &Row) -> Result<Option<Name>, 
 }
 
 /// The row as it stands.
-fn feature_told(alloc: Global, schema: &Schema, row: &Row) -> Result<FeatureReply, AllocError>
+fn feature_of_row(alloc: Global, schema: &Schema, row: &Row) -> Result<FeatureReply, AllocError>
     requires { HasNames schema.now row.now }
-    ensures { IfOk result (λ feature. feature ≡ feature_told schema.now row.now) }
+    ensures { IfOk result (λ feature. feature ≡ feature_of_row schema.now row.now) }
 {
     Ok(FeatureReply {
         attrs: named_attrs(alloc, schema, row.attrs.pairs())?,
@@ -127,7 +127,7 @@ impl Net {
             return Ok(self.refused(Refusal::NoSuchFeature { id }));
         };
         Ok(Reply::Feature {
-            feature: feature_told(alloc, &self.facts.setup().schema, row)?,
+            feature: feature_of_row(alloc, &self.facts.setup().schema, row)?,
             version: self.version,
         })
     }

@@ -11,8 +11,7 @@ mod kept;
 pub mod laws;
 pub mod net;
 mod points;
-mod starts;
 mod validate;
 
 pub use net::Net;
-pub use un_facts::Setup;
+pub use un_tiers::Setup;

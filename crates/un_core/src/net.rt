@@ -1,8 +1,8 @@
 //! The network.
 ghost use Rattle.std.specs.Prelude.{◌≡◌, ◌<◌, [], ◌∷◌, Some, None, IfOk, OnOk, IfErr};
-ghost use Rattle.un_core.specs.State.{State, opening};
+ghost use Rattle.un_core.specs.State.{State, next_ids, opening};
 ghost use Rattle.un_core.specs.Cover.{IsState};
-ghost use Rattle.un_core.specs.Refusals.{numbers_due};
+ghost use Rattle.un_core.specs.Refusals.{numbers_refusal};
 
 use std::alloc::{AllocError, Global};
 use std::marker::Model;
@@ -28,7 +28,7 @@ pub struct Net {
 
 impl Model for Net {
     ghost use Rattle.std.specs.Coded.{codes};
-    ghost use Rattle.un_facts.specs.contracts.setup.Setup as setup_row;
+    ghost use Rattle.un_tiers.specs.contracts.setup.Setup as setup_row;
     ghost use Rattle.un_core.specs.State.{State};
     ghost use Rattle.un_core.specs.Held.{held};
     ghost use Rattle.un_core.specs.Cover.{IsState};
@@ -67,10 +67,17 @@ impl Net {
         self.version
     }
 
+    /// The ids that the next edit gives.
+    pub(crate) fn next_ids(&self) -> NextIds
+        ensures { result ≡ next_ids self.now }
+    {
+        self.ids
+    }
+
     /// Refuses where the versions, the ids or the numbers of areas are used up.
     pub(crate) fn check_numbers(&self) -> Result<(), Refusal>
-        ensures good { OnOk result (numbers_due self.now ≡ None) }
-        ensures bad { IfErr result (λ refusal. numbers_due self.now ≡ Some refusal) }
+        ensures good { OnOk result (numbers_refusal self.now ≡ None) }
+        ensures bad { IfErr result (λ refusal. numbers_refusal self.now ≡ Some refusal) }
         ensures version { OnOk result (self.now.version < 9_000_000_000_000_000) }
         ensures feature { OnOk result (self.now.next_feature < 9_000_000_000_000_000) }
         ensures association { OnOk result (self.now.next_association < 9_000_000_000_000_000) }

@@ -6,7 +6,7 @@ ghost use Rattle.std.specs.Arc.{arc_value};
 ghost use Rattle.un_defs.specs.Star.{star};
 ghost use Rattle.un_core.specs.State.{fresh_star};
 ghost use Rattle.un_core.specs.Validation.{validated, met, errors_under, AreRebuilt, IsKept};
-ghost use Rattle.un_core.specs.Refusals.{numbers_due};
+ghost use Rattle.un_core.specs.Refusals.{numbers_refusal};
 
 use crate::net::Net;
 use std::alloc::{AllocError, Global};
@@ -77,8 +77,8 @@ impl Net {
         ensures state { IfOk result (λ v. v.net ≡ validated self.now extent) }
         ensures cleared { IfOk result (λ v. v.cleared ≡ length (met extent self.now.areas)) }
         ensures errors { IfOk result (λ v. v.errors ≡ errors_under self.now (met extent self.now.areas)) }
-        ensures good { OnOk result (numbers_due self.now ≡ None) }
-        ensures bad { IfErr result (λ refusal. refusal ≢ Memory → numbers_due self.now ≡ Some refusal) }
+        ensures good { OnOk result (numbers_refusal self.now ≡ None) }
+        ensures bad { IfErr result (λ refusal. refusal ≢ Memory → numbers_refusal self.now ≡ Some refusal) }
     {
         self.check_numbers()?;
         let areas = self.dirty.meeting(alloc, extent)?;

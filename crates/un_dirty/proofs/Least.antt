@@ -14,9 +14,9 @@ use Rattle.un_geom.specs.declared.point.Point.{Point}
 use Rattle.un_geom.specs.Rectangle.{Rectangle}
 use Rattle.un_geom.specs.Places.{covers}
 use Rattle.un_pages.specs.Pairs.{IsOrdered, IsAbove}
-use Rattle.un_dirty.specs.Cells.{Numbers, CellMap, has_number, is_in, level_of, cell_at, is_covered, covers_at, lesser_of, IsAtMost, IsShown}
+use Rattle.un_dirty.specs.Cells.{Numbers, CellMap, has_number, is_in, level_of, cell_at, is_covered, covers_at, lesser_of, IsAtMost, IsIndexed}
 use Rattle.un_dirty.proofs.Numbering.{equal}
-use Rattle.un_dirty.proofs.Shown.{tie}
+use Rattle.un_dirty.proofs.Indexed.{tie}
 
 module _ {V : Type 0} where
   key_above : (m n : ℕ) (v : V) (l : List (ℕ × V)) → IsAbove nat_cmp m l → lookup (is_at (nat_cmp n)) l ≡ Some v → m < n
@@ -112,10 +112,10 @@ record IsFirst (areas : List (ℕ × Rectangle)) (cells : CellMap) (levels : ℕ
   pub over : covers a.1 p ≡ true
 
 module _ (cells : CellMap) (levels : ℕ) (p : Point) where
-  first_shown : (areas : List (ℕ × Rectangle)) (a : ℕ × Rectangle) → IsOrdered nat_cmp areas → AllByRecursion (IsShown cells levels) areas → find (λ a. covers a.1 p) areas ≡ Some a → IsFirst areas cells levels p a
+  first_indexed : (areas : List (ℕ × Rectangle)) (a : ℕ × Rectangle) → IsOrdered nat_cmp areas → AllByRecursion (IsIndexed cells levels) areas → find (λ a. covers a.1 p) areas ≡ Some a → IsFirst areas cells levels p a
   unfolding IsStrictlySortedBy
-  first_shown [] a s is e = cc
-  first_shown (x ∷ l) a s is e = by (covers x.1 p) refl (first_shown l a s.1 is.1) e
+  first_indexed [] a s is e = cc
+  first_indexed (x ∷ l) a s is e = by (covers x.1 p) refl (first_indexed l a s.1 is.1) e
     where
       by : (b : Bool) → covers x.1 p ≡ b → (find (λ a. covers a.1 p) l ≡ Some a → IsFirst l cells levels p a) → cond b (Some x) (find (λ a. covers a.1 p) l) ≡ Some a → IsFirst (x ∷ l) cells levels p a
       by true c ih e =
@@ -127,7 +127,7 @@ module _ (cells : CellMap) (levels : ℕ) (p : Point) where
           let greater : nat_cmp a.0 x.0 ≡ Greater = sym (nat_cmp_is a.0 x.0 Greater (key_above x.0 a.0 a.1 l s.0 r.at)) in
           record { low = r.low; there = r.there; at = ap (λ o. cond (is_eq o) (Some x.1) (lookup (is_at (nat_cmp a.0)) l)) greater ∙ r.at; over = r.over }
 
-  pub least_is : (areas : List (ℕ × Rectangle)) (r : Option ℕ) → IsOrdered nat_cmp areas → AllByRecursion (IsShown cells levels) areas
+  pub least_is : (areas : List (ℕ × Rectangle)) (r : Option ℕ) → IsOrdered nat_cmp areas → AllByRecursion (IsIndexed cells levels) areas
       → IfSome r (λ n. covers_at p n areas ≡ true)
       → ((level : ℕ) → (n : ℕ) → level < levels → is_in (cell_at level p) n cells ≡ true → covers_at p n areas ≡ true → IsAtMost r n)
       → r ≡ option_map (λ a. a.0) (find (λ a. covers a.1 p) areas)
@@ -141,10 +141,10 @@ module _ (cells : CellMap) (levels : ℕ) (p : Point) where
       by None e None sound least = refl
       by None e (Some n) sound least = absurd (subst (λ f. IsAtMost (option_map (λ a. a.0) f) n) e (at_most n sound))
       by (Some a) e None sound least =
-          let f = first_shown areas a s is e in
+          let f = first_indexed areas a s is e in
           absurd (least (level_of a.1) a.0 f.low f.there (ap (is_covered p) f.at ∙ f.over))
       by (Some a) e (Some n) sound least =
-          let f = first_shown areas a s is e in
+          let f = first_indexed areas a s is e in
           let high : n ≤ a.0 = least (level_of a.1) a.0 f.low f.there (ap (is_covered p) f.at ∙ f.over) in
           let low : a.0 ≤ n = subst (λ f. IsAtMost (option_map (λ a. a.0) f) n) e (at_most n sound) in
           let same : n ≡ a.0 = omega (arith, high, low) in

@@ -100,7 +100,7 @@ abbrev pub IsLeastOver : ℕ → Point → List (ℕ × Rectangle) → CellMap �
 IsLeastOver levels p areas cells r = (level : ℕ) → (n : ℕ) → level < levels → is_in (cell_at level p) n cells ≡ true → covers_at p n areas ≡ true → IsAtMost r n
 
 -- the number of an area is in the cell, of the area's level, of each point that the area covers
-pub record IsShown (cells : CellMap) (levels : ℕ) (a : ℕ × Rectangle) : Type 0 where
+pub record IsIndexed (cells : CellMap) (levels : ℕ) (a : ℕ × Rectangle) : Type 0 where
   pub low : level_of a.1 < levels
   pub all : (p : Point) → covers a.1 p ≡ true → is_in (cell_at (level_of a.1) p) a.0 cells ≡ true
 
@@ -108,4 +108,4 @@ pub record IsShown (cells : CellMap) (levels : ℕ) (a : ℕ × Rectangle) : Typ
 pub record IsKept (areas : List (ℕ × Rectangle)) (next : ℕ) (cells : CellMap) (levels : ℕ) : Type 0 where
   pub under : IsUnder areas next
   pub few_levels : levels ≤ 20
-  pub shown : AllByRecursion (IsShown cells levels) areas
+  pub indexed : AllByRecursion (IsIndexed cells levels) areas

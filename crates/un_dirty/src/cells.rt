@@ -16,7 +16,7 @@ ghost use Rattle.un_geom.specs.Rectangle.{IsBounded};
 ghost use Rattle.un_geom.specs.Places.{covers};
 ghost use Rattle.un_pages.specs.Pairs.{IsOrdered};
 ghost use Rattle.un_dirty.specs.declared.cells.Cell.{Cell};
-ghost use Rattle.un_dirty.specs.Cells.{numbers_in, is_in, level_of, cell_index, cell_at, covers_at, lesser_of, IsLeastIn, IsLeastOver, IsShown, FillsRow, FillsBlock, FillsCells, Keeps, KeepsOthers, KeepsBut};
+ghost use Rattle.un_dirty.specs.Cells.{numbers_in, is_in, level_of, cell_index, cell_at, covers_at, lesser_of, IsLeastIn, IsLeastOver, IsIndexed, FillsRow, FillsBlock, FillsCells, Keeps, KeepsOthers, KeepsBut};
 
 use std::alloc::Global;
 use std::ops::Bound;
@@ -209,7 +209,7 @@ pub(crate) fn with_areas(
     ensures few { IfOk result (λ r. r.1 ≤ 20) }
     ensures rising { IfOk result (λ r. levels ≤ r.1) }
     ensures kept { IfOk result (λ r. Keeps cells.now r.0) }
-    ensures each { IfOk result (λ r. AllByRecursion (IsShown r.0 r.1) (enumerate_from first rects.now)) }
+    ensures each { IfOk result (λ r. AllByRecursion (IsIndexed r.0 r.1) (enumerate_from first rects.now)) }
 {
     let mut all = cells.share()?;
     let mut used = levels;

@@ -17,10 +17,10 @@ use Rattle.un_defs.proofs.Rising.{Among}
 use Rattle.un_defs.proofs.Members.{among-filter}
 use Rattle.un_defs.proofs.Near.{false_unless}
 use Rattle.un_defs.proofs.ListLemmas.{none_passes}
-use Rattle.un_defs.specs.Dues.{due_if}
+use Rattle.un_defs.specs.Refusing.{refused_if}
 use Rattle.un_defs.proofs.KeepsSound.{all_from}
-use Rattle.un_store.proofs.Fitting.{none_due}
-use Rattle.un_facts.specs.Refusals.{has_associations, has_controllers, standing_due}
+use Rattle.un_store.proofs.Fitting.{none_refused}
+use Rattle.un_facts.specs.Refusals.{has_associations, has_controllers, standing_refusal}
 
 module _ {A : Type 0} (cmp : A → A → Ordering) where
   -- a list to which an element was added has a first
@@ -42,7 +42,7 @@ pub unmapped : {A : Type 0} (f : A → Refusal) (o : Option A) → option_map f 
 unmapped f None e = refl
 unmapped f (Some x) e = let none : Some (f x) ≡ None = e in cc
 
-pub fails : (b : Bool) (r : Refusal) → due_if b r ≡ None → b ≡ false
+pub fails : (b : Bool) (r : Refusal) → refused_if b r ≡ None → b ≡ false
 fails true r e = let none : Some r ≡ None = e in cc
 fails false r e = refl
 
@@ -53,10 +53,10 @@ module _ (F : Features) (id : ℕ) where
   no_controllers : has_controllers F id ≡ None → list_any (λ c. c.port.feature == id) F.controllers ≡ false
   no_controllers = fails (list_any (λ c. c.port.feature == id) F.controllers) refusal.HasControllers
 
-  pub alone : (base : ℕ) → standing_due F (edit.Delete id base) ≡ None → IsAlone F id
+  pub alone : (base : ℕ) → standing_refusal F (edit.Delete id base) ≡ None → IsAlone F id
   alone base e =
-      let ends = none_due (has_associations F id) (has_controllers F id ∷ []) e in
-      let controllers = none_due (has_controllers F id) [] ends.1 in
+      let ends = none_refused (has_associations F id) (has_controllers F id ∷ []) e in
+      let controllers = none_refused (has_controllers F id) [] ends.1 in
       record {
         associations = all_from (λ a. is_end_of id a ≡ false) F.associations (λ a h.
             false_unless (is_end_of id a) (λ t. subst (λ l. Among l a) (no_ends ends.0) (among-filter (is_end_of id) F.associations a h t)));

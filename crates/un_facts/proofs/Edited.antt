@@ -18,7 +18,7 @@ use Rattle.un_defs.specs.declared.edit.Edit.{Edit}
 use Rattle.un_defs.specs.declared.edit.Edit.TheVariants as edit
 use Rattle.un_defs.specs.declared.refusal.Refusal.{Refusal}
 use Rattle.un_defs.specs.declared.refusal.Refusal.TheVariants as refusal
-use Rattle.un_defs.specs.Dues.{due_if}
+use Rattle.un_defs.specs.Refusing.{refused_if}
 use Rattle.un_defs.specs.Features.{Features, association}
 use Rattle.un_defs.specs.Ports.{nodes_of}
 use Rattle.un_defs.specs.Links.{is_connectivity}
@@ -29,7 +29,7 @@ use Rattle.un_store.specs.Words.{IsRowEdit}
 use Rattle.un_store.specs.Keyed.{row_with}
 use Rattle.un_store.specs.Edits.{rows_after}
 use Rattle.un_store.specs.Refusals.{refusal_of, no_kind, no_row}
-use Rattle.un_store.proofs.Fitting.{none_due}
+use Rattle.un_store.proofs.Fitting.{none_refused}
 use Rattle.un_store.proofs.Held.{found_id}
 use Rattle.un_store.proofs.Makings.{rows_alone}
 use Rattle.un_grid.specs.Grids.{IsGridOf, HasRow, HasInPlace, LacksRow, InsertLaw, RemoveLaw, ReplaceLaw, StayLaw, without_row}
@@ -67,7 +67,7 @@ found_changed id f keeps (r ∷ rows) = go (r.id == id) refl (found_changed id f
 there : (rows : List Row) (id base : ℕ) → no_row rows id base ≡ None → (r : Row) × (row_with rows id ≡ Some r)
 there rows id base = go (row_with rows id)
   where
-    go : (o : Option Row) → option_map_or (λ r. due_if (not (r.moment == base)) (refusal.Moved r.moment)) o (Some (refusal.NoSuchFeature id)) ≡ None → (r : Row) × (o ≡ Some r)
+    go : (o : Option Row) → option_map_or (λ r. refused_if (not (r.moment == base)) (refusal.Moved r.moment)) o (Some (refusal.NoSuchFeature id)) ≡ None → (r : Row) × (o ≡ Some r)
     go None e = let n : Some (refusal.NoSuchFeature id) ≡ None = e in cc
     go (Some r) e = (r, refl)
 
@@ -113,15 +113,15 @@ module _ (T : Setting) (N : Next) (F : Features) where
 
     inserted_by : (o : Option ℕ) → kind_named T.catalog kind ≡ o → option_map_or (λ k. None) o (Some (refusal.NoSuchKind kind)) ≡ None
         → IsInserted points (option_map_or (λ k. option_map_or (λ kd. add_row F (inserted_row k kd)) (kind_at T.catalog k) F) o F)
-    inserted_by None named due = let n : Some (refusal.NoSuchKind kind) ≡ None = due in cc
-    inserted_by (Some k) named due =
+    inserted_by None named cause = let n : Some (refusal.NoSuchKind kind) ≡ None = cause in cc
+    inserted_by (Some k) named cause =
         elim (slice_get_cases T.catalog.kinds k).1 [
           | inl i ↦ record { row = inserted_row k i.0; is = ap (λ kd. option_map_or (λ kd. add_row F (inserted_row k kd)) kd F) i.2; id = refl; shape = refl }
           | inr p ↦ absurd (omega (arith, position_inside (λ kd. same_text kind kd.name) T.catalog.kinds k named, p.0))
         ]
 
     inserted : no_kind T.catalog kind ≡ None → IsInserted points (left (edit.Insert kind points attrs flow ends note))
-    inserted due = inserted_by (kind_named T.catalog kind) refl due
+    inserted cause = inserted_by (kind_named T.catalog kind) refl cause
 
   found_inserted : All (λ r. r.id < N.feature) F.rows → (points : List (List ℤ)) (G : Features) (i : IsInserted points G) → row_with G.rows N.feature ≡ Some i.row
   found_inserted below points G i =
@@ -141,8 +141,8 @@ module _ (T : Setting) (N : Next) (F : Features) where
     where
       of_name : (o : Option ℕ) → option_map_or (λ k. None) o (Some (refusal.NoSuchKind kind)) ≡ None
           → IsChanged id (option_map_or (λ k. change_row F id (of_kind T.catalog N k)) o F)
-      of_name None due = let n : Some (refusal.NoSuchKind kind) ≡ None = due in cc
-      of_name (Some k) due = record { change = of_kind T.catalog N k; is = refl; keeps = λ r. refl }
+      of_name None cause = let n : Some (refusal.NoSuchKind kind) ≡ None = cause in cc
+      of_name (Some k) cause = record { change = of_kind T.catalog N k; is = refl; keeps = λ r. refl }
 
   reshaped : (id base : ℕ) (points : List (List ℤ)) → IsChanged id (left (edit.Reshape id base points))
   reshaped id base points = record { change = moved N points; is = refl; keeps = λ r. refl }
@@ -154,23 +154,23 @@ module _ (T : Setting) (N : Next) (F : Features) where
 
   pub rectangles_are : All (λ r. r.id < N.feature) F.rows → (e : Edit) → IsRowEdit e → refusal_of T.catalog F.rows e ≡ None
       → own_rectangles e (row_with F.rows (row_of N.feature e)) (row_with (left e).rows (row_of N.feature e)) ++ other_rectangles F e ≡ dirtied F e
-  rectangles_are below (edit.Insert kind points attrs flow ends note) word due =
-      let i = inserted kind points attrs flow ends note (none_due (no_kind T.catalog kind) _ due).0 in
+  rectangles_are below (edit.Insert kind points attrs flow ends note) word cause =
+      let i = inserted kind points attrs flow ends note (none_refused (no_kind T.catalog kind) _ cause).0 in
       append-nil _ ∙ ap envelope_of_row (found_inserted below points (left (edit.Insert kind points attrs flow ends note)) i) ∙ ap (λ shape. option_to_list (envelope shape)) i.shape
-  rectangles_are below (edit.Reshape id base points) word due =
-      let r = there F.rows id base (none_due (no_row F.rows id base) _ due).0 in
+  rectangles_are below (edit.Reshape id base points) word cause =
+      let r = there F.rows id base (none_refused (no_row F.rows id base) _ cause).0 in
       let move = moved N points in
       let later : envelope_of_row (row_with (left (edit.Reshape id base points)).rows id) ≡ envelope_of_given points =
       ap envelope_of_row (found_changed id move (λ r. refl) F.rows ∙ ap (option_map move) r.1) in
       ap (λ rects. envelope_of F id ++ rects ++ flat_map (envelope_of F) (partners F is_connectivity id)) later
-  rectangles_are below (edit.Attrs id base attrs) word due = append-nil (envelope_of F id)
-  rectangles_are below (edit.Kind id base kind) word due = refl
-  rectangles_are below (edit.Path id base path) word due = append-nil (envelope_of F id)
-  rectangles_are below (edit.Flow id base flow) word due = append-nil (envelope_of F id)
-  rectangles_are below (edit.Ends id base ends) word due = append-nil (envelope_of F id)
-  rectangles_are below (edit.Note id base note) word due = refl
-  rectangles_are below (edit.Delete id base) word due = append-nil (envelope_of F id)
-  rectangles_are below _ word due = absurd word
+  rectangles_are below (edit.Attrs id base attrs) word cause = append-nil (envelope_of F id)
+  rectangles_are below (edit.Kind id base kind) word cause = refl
+  rectangles_are below (edit.Path id base path) word cause = append-nil (envelope_of F id)
+  rectangles_are below (edit.Flow id base flow) word cause = append-nil (envelope_of F id)
+  rectangles_are below (edit.Ends id base ends) word cause = append-nil (envelope_of F id)
+  rectangles_are below (edit.Note id base note) word cause = refl
+  rectangles_are below (edit.Delete id base) word cause = append-nil (envelope_of F id)
+  rectangles_are below _ word cause = absurd word
 
   -- ---- the ports
 
@@ -186,8 +186,8 @@ module _ (T : Setting) (N : Next) (F : Features) where
 
     in_place : (id base : ℕ) (G : Features) → IsChanged id G → no_row F.rows id base ≡ None
         → IfSome (row_with F.rows id) (λ r. IfSome (row_with G.rows id) (HasInPlace old new r)) → IsGridOf new G
-    in_place id base G c due has =
-        let r = there F.rows id base due in
+    in_place id base G c cause has =
+        let r = there F.rows id base cause in
         let same : (r.0).id ≡ id = found_id F.rows id r.0 r.1 in
         let of_row : IfSome (row_with G.rows id) (HasInPlace old new r.0) = subst (λ o. IfSome o (λ r. IfSome (row_with G.rows id) (HasInPlace old new r))) r.1 has in
         let of_both : HasInPlace old new r.0 (c.change r.0) = subst (λ o. IfSome o (HasInPlace old new r.0)) (after_changed id G c ∙ ap (option_map c.change) r.1) of_row in
@@ -195,32 +195,32 @@ module _ (T : Setting) (N : Next) (F : Features) where
         (replace_law old new F r.0 c.change apart (ap (row_with F.rows) same ∙ r.1) (c.keeps r.0) of of_both)
 
     taken_out : (id base : ℕ) → no_row F.rows id base ≡ None → IfSome (row_with F.rows id) (LacksRow old new) → IsGridOf new (without_row F id)
-    taken_out id base due has =
-        let r = there F.rows id base due in
+    taken_out id base cause has =
+        let r = there F.rows id base cause in
         let same : (r.0).id ≡ id = found_id F.rows id r.0 r.1 in
         subst (IsGridOf new) (ap (without_row F) same) (remove_law old new F r.0 apart (ap (row_with F.rows) same ∙ r.1) of (subst (λ o. IfSome o (LacksRow old new)) r.1 has))
 
     pub grid_is : (e : Edit) → IsRowEdit e → refusal_of T.catalog F.rows e ≡ None
         → HasPorts e (row_with F.rows (row_of N.feature e)) (row_with (left e).rows (row_of N.feature e)) old new → IsGridOf new (left e)
-    grid_is (edit.Insert kind points attrs flow ends note) word due has =
-        besides points (left (edit.Insert kind points attrs flow ends note)) (inserted kind points attrs flow ends note (none_due (no_kind T.catalog kind) _ due).0) has
-    grid_is (edit.Reshape id base points) word due has =
-        in_place id base (left (edit.Reshape id base points)) (reshaped id base points) (none_due (no_row F.rows id base) _ due).0 has
-    grid_is (edit.Attrs id base attrs) word due has = stays id (λ r. record r { attrs = numbered T.catalog attrs; moment = N.moment }) (λ r. refl) has
-    grid_is (edit.Kind id base kind) word due has =
-        let behind_row = none_due (no_row F.rows id base) _ due in
-        in_place id base (left (edit.Kind id base kind)) (kind_changed id base kind (none_due (no_kind T.catalog kind) _ behind_row.1).0) behind_row.0 has
-    grid_is (edit.Path id base path) word due has = stays id (on_path T.catalog N path) (λ r. refl) has
-    grid_is (edit.Flow id base flow) word due has = stays id (λ r. record r { flow = flow; moment = N.moment }) (λ r. refl) has
-    grid_is (edit.Ends id base ends) word due has = stays id (λ r. record r { ends = ends; moment = N.moment }) (λ r. refl) has
-    grid_is (edit.Note id base note) word due has = stays id (λ r. record r { note = note; moment = N.moment }) (λ r. refl) has
-    grid_is (edit.Delete id base) word due has = taken_out id base due has
-    grid_is _ word due has = absurd word
+    grid_is (edit.Insert kind points attrs flow ends note) word cause has =
+        besides points (left (edit.Insert kind points attrs flow ends note)) (inserted kind points attrs flow ends note (none_refused (no_kind T.catalog kind) _ cause).0) has
+    grid_is (edit.Reshape id base points) word cause has =
+        in_place id base (left (edit.Reshape id base points)) (reshaped id base points) (none_refused (no_row F.rows id base) _ cause).0 has
+    grid_is (edit.Attrs id base attrs) word cause has = stays id (λ r. record r { attrs = numbered T.catalog attrs; moment = N.moment }) (λ r. refl) has
+    grid_is (edit.Kind id base kind) word cause has =
+        let behind_row = none_refused (no_row F.rows id base) _ cause in
+        in_place id base (left (edit.Kind id base kind)) (kind_changed id base kind (none_refused (no_kind T.catalog kind) _ behind_row.1).0) behind_row.0 has
+    grid_is (edit.Path id base path) word cause has = stays id (on_path T.catalog N path) (λ r. refl) has
+    grid_is (edit.Flow id base flow) word cause has = stays id (λ r. record r { flow = flow; moment = N.moment }) (λ r. refl) has
+    grid_is (edit.Ends id base ends) word cause has = stays id (λ r. record r { ends = ends; moment = N.moment }) (λ r. refl) has
+    grid_is (edit.Note id base note) word cause has = stays id (λ r. record r { note = note; moment = N.moment }) (λ r. refl) has
+    grid_is (edit.Delete id base) word cause has = taken_out id base cause has
+    grid_is _ word cause has = absurd word
 
 -- ---- an edit and the two rows that were looked up
 
 module _ (T : Setting) (N : Next) (F : Features) (below : All (λ r. r.id < N.feature) F.rows)
-    (e : Edit) (word : IsRowEdit e) (due : refusal_of T.catalog F.rows e ≡ None)
+    (e : Edit) (word : IsRowEdit e) (cause : refusal_of T.catalog F.rows e ≡ None)
     (rows_left : List Row) (are : rows_left ≡ rows_after T.catalog N.feature N.moment F.rows e)
     (id : ℕ) (id_is : id ≡ row_of N.feature e)
     (before_row after_row : Option Row) (before_is : before_row ≡ row_with F.rows id) (after_is : after_row ≡ row_with rows_left id) where
@@ -232,15 +232,15 @@ module _ (T : Setting) (N : Next) (F : Features) (below : All (λ r. r.id < N.fe
       let same : rows_left ≡ (changed T N F e).rows = are ∙ sym (rows_alone T N F e) in
       after_is ∙ (λ i. row_with (same i) (id_is i))
 
-  pub rectangles_told : own_rectangles e before_row after_row ++ other_rectangles F e ≡ dirtied F e
-  rectangles_told = (λ i. own_rectangles e (before_found i) (after_found i) ++ other_rectangles F e) ∙ rectangles_are T N F below e word due
+  pub all_rectangles_are : own_rectangles e before_row after_row ++ other_rectangles F e ≡ dirtied F e
+  all_rectangles_are = (λ i. own_rectangles e (before_found i) (after_found i) ++ other_rectangles F e) ∙ rectangles_are T N F below e word cause
 
-  pub grid_told : InsertLaw → RemoveLaw → ReplaceLaw → StayLaw → AllPairs (λ r s. r.id ≢ s.id) F.rows
+  pub grid_after : InsertLaw → RemoveLaw → ReplaceLaw → StayLaw → AllPairs (λ r s. r.id ≢ s.id) F.rows
       → (old new : List (Point × List Port)) → IsGridOf old F → HasPorts e before_row after_row old new → IsGridOf new (changed T N F e)
-  grid_told insert_law remove_law replace_law stay_law apart old new of has =
-      let told : HasPorts e (row_with F.rows (row_of N.feature e)) (row_with (changed T N F e).rows (row_of N.feature e)) old new =
+  grid_after insert_law remove_law replace_law stay_law apart old new of has =
+      let ported : HasPorts e (row_with F.rows (row_of N.feature e)) (row_with (changed T N F e).rows (row_of N.feature e)) old new =
       subst (λ o. HasPorts e (row_with F.rows (row_of N.feature e)) o old new) after_found (subst (λ o. HasPorts e o after_row old new) before_found has) in
-      grid_is T N F insert_law remove_law replace_law stay_law below apart old new of e word due told
+      grid_is T N F insert_law remove_law replace_law stay_law below apart old new of e word cause ported
 
 -- ---- the rectangles of an edit of an association or of a controller
 

@@ -11,7 +11,7 @@ use Rattle.un_assoc.specs.Links.{Links, links_of, with_links}
 use Rattle.un_assoc.specs.Words.{IsLinkEdit}
 use Rattle.un_assoc.specs.Edits.{next_of, IsMade}
 use Rattle.un_assoc.specs.Lawful.{LinksAloneLaw, links_after}
-use Rattle.un_facts.specs.declared.setup.Setup.{Setup}
+use Rattle.un_tiers.specs.declared.setup.Setup.{Setup}
 use Rattle.un_facts.specs.declared.ids.NextIds.{NextIds}
 use Rattle.un_facts.specs.Known.{features_of, setting, next_at}
 use Rattle.un_assoc.specs.Refusals.{refusal_of}

@@ -5,7 +5,7 @@ use Rattle.un_schema.specs.Sound.{IsCatalog}
 use Rattle.un_defs.specs.declared.edit.Edit.{Edit}
 use Rattle.un_defs.specs.declared.edit.Edit.TheVariants as edit
 use Rattle.un_defs.specs.declared.refusal.Refusal.{Refusal}
-use Rattle.un_defs.specs.Dues.{first_due}
+use Rattle.un_defs.specs.Refusing.{first_refusal}
 use Rattle.un_defs.specs.Features.{Features}
 use Rattle.un_defs.specs.Change.{Setting, Next, changed}
 use Rattle.un_defs.specs.Laws.{AreNew, MayBeMade}
@@ -15,7 +15,7 @@ use Rattle.un_store.specs.Words.{IsRowEdit}
 use Rattle.un_store.specs.Edits.{IsOfRow}
 use Rattle.un_store.specs.Refusals.{refusal_of as row_refusal}
 use Rattle.un_store.proofs.Makings.{fits_alone}
-use Rattle.un_store.proofs.Fitting.{none_due}
+use Rattle.un_store.proofs.Fitting.{none_refused}
 use Rattle.un_store.proofs.EditsFit.{edit_fits}
 use Rattle.un_assoc.specs.Words.{IsLinkEdit}
 use Rattle.un_assoc.proofs.Making.{may_be_made}
@@ -24,7 +24,7 @@ use Rattle.un_facts.specs.declared.ids.NextIds.{NextIds}
 use Rattle.un_facts.specs.Known.{Known, setting, next_at, edited}
 use Rattle.un_facts.specs.Standing.{IsKnown}
 use Rattle.un_defs.specs.Sound.{IsSound}
-use Rattle.un_facts.specs.Refusals.{is_row_edit, is_of_features, standing_due, refusal_of}
+use Rattle.un_facts.specs.Refusals.{is_row_edit, is_of_features, standing_refusal, refusal_of}
 use Rattle.un_facts.proofs.Alone.{alone}
 use Rattle.un_facts.proofs.Attributes.{changed_has}
 
@@ -34,38 +34,38 @@ module _ (K : Known) (ids : NextIds) (moment : ℕ) (schema : IsCatalog K.setup.
 
   -- the row that it leaves fits its kind
   fitting : (e : Edit) → IsOfRow e → row_refusal K.setup.schema K.features.rows e ≡ None → MayBe e
-  fitting e word due =
+  fitting e word cause =
       fits_alone (setting K.setup) (next_at ids moment) K.features e word
-      (edit_fits K.setup.schema ids.feature moment K.features.rows e schema sound.kinds word due)
+      (edit_fits K.setup.schema ids.feature moment K.features.rows e schema sound.kinds word cause)
 
   of_link : (e : Edit) → IsLinkEdit e → link_refusal (setting K.setup) K.features e ≡ None → MayBe e
-  of_link e word due = may_be_made (setting K.setup) (next_at ids moment) K.features e word due
+  of_link e word cause = may_be_made (setting K.setup) (next_at ids moment) K.features e word cause
 
   pub made : (e : Edit) → is_of_features e ≡ true → refusal_of K e ≡ None → MayBe e
-  made e word due =
-      let behind_rows = none_due (row_refusal K.setup.schema K.features.rows e) _ due in
-      let behind_standing = none_due (standing_due K.features e) _ behind_rows.1 in
-      let of_links = none_due (link_refusal (setting K.setup) K.features e) [] behind_standing.1 in
+  made e word cause =
+      let behind_rows = none_refused (row_refusal K.setup.schema K.features.rows e) _ cause in
+      let behind_standing = none_refused (standing_refusal K.features e) _ behind_rows.1 in
+      let of_links = none_refused (link_refusal (setting K.setup) K.features e) [] behind_standing.1 in
       go e word behind_rows.0 behind_standing.0 of_links.0
     where
-      go : (e : Edit) → is_of_features e ≡ true → row_refusal K.setup.schema K.features.rows e ≡ None → standing_due K.features e ≡ None
+      go : (e : Edit) → is_of_features e ≡ true → row_refusal K.setup.schema K.features.rows e ≡ None → standing_refusal K.features e ≡ None
           → link_refusal (setting K.setup) K.features e ≡ None → MayBe e
-      go (edit.Insert kind points attrs flow ends note) word due stands none = fitting (edit.Insert kind points attrs flow ends note) tt due
-      go (edit.Reshape id base points) word due stands none = fitting (edit.Reshape id base points) tt due
-      go (edit.Attrs id base attrs) word due stands none = tt
-      go (edit.Kind id base kind) word due stands none = fitting (edit.Kind id base kind) tt due
-      go (edit.Path id base path) word due stands none = fitting (edit.Path id base path) tt due
-      go (edit.Flow id base flow) word due stands none = tt
-      go (edit.Ends id base ends) word due stands none = tt
-      go (edit.Note id base note) word due stands none = tt
-      go (edit.Delete id base) word due stands none = alone K.features id base stands
-      go (edit.Connect from to) word due stands none = of_link (edit.Connect from to) tt none
-      go (edit.Contain container content) word due stands none = of_link (edit.Contain container content) tt none
-      go (edit.Attach structure content) word due stands none = of_link (edit.Attach structure content) tt none
-      go (edit.Detach assoc) word due stands none = tt
-      go (edit.Controller id terminal tier subnet) word due stands none = of_link (edit.Controller id terminal tier subnet) tt none
-      go (edit.Uncontroller id terminal) word due stands none = tt
-      go (edit.Rule rule) word due stands none = absurd (true≢false (sym word))
+      go (edit.Insert kind points attrs flow ends note) word cause stands none = fitting (edit.Insert kind points attrs flow ends note) tt cause
+      go (edit.Reshape id base points) word cause stands none = fitting (edit.Reshape id base points) tt cause
+      go (edit.Attrs id base attrs) word cause stands none = tt
+      go (edit.Kind id base kind) word cause stands none = fitting (edit.Kind id base kind) tt cause
+      go (edit.Path id base path) word cause stands none = fitting (edit.Path id base path) tt cause
+      go (edit.Flow id base flow) word cause stands none = tt
+      go (edit.Ends id base ends) word cause stands none = tt
+      go (edit.Note id base note) word cause stands none = tt
+      go (edit.Delete id base) word cause stands none = alone K.features id base stands
+      go (edit.Connect from to) word cause stands none = of_link (edit.Connect from to) tt none
+      go (edit.Contain container content) word cause stands none = of_link (edit.Contain container content) tt none
+      go (edit.Attach structure content) word cause stands none = of_link (edit.Attach structure content) tt none
+      go (edit.Detach assoc) word cause stands none = tt
+      go (edit.Controller id terminal tier subnet) word cause stands none = of_link (edit.Controller id terminal tier subnet) tt none
+      go (edit.Uncontroller id terminal) word cause stands none = tt
+      go (edit.Rule rule) word cause stands none = absurd (true≢false (sym word))
 
 -- ---- the words
 
@@ -127,23 +127,23 @@ row_alone T F (edit.Delete id base) word = refl
 row_alone T F _ word = absurd word
 
 module _ (K : Known) (e : Edit) where
-  of_three : (a b c : Option Refusal) → row_refusal K.setup.schema K.features.rows e ≡ a → standing_due K.features e ≡ b → link_refusal (setting K.setup) K.features e ≡ c
-      → refusal_of K e ≡ first_due (a ∷ b ∷ c ∷ [])
-  of_three a b c p q r = λ i. first_due (p i ∷ q i ∷ r i ∷ [])
+  of_three : (a b c : Option Refusal) → row_refusal K.setup.schema K.features.rows e ≡ a → standing_refusal K.features e ≡ b → link_refusal (setting K.setup) K.features e ≡ c
+      → refusal_of K e ≡ first_refusal (a ∷ b ∷ c ∷ [])
+  of_three a b c p q r = λ i. first_refusal (p i ∷ q i ∷ r i ∷ [])
 
-  pub row_good : IsRowEdit e → row_refusal K.setup.schema K.features.rows e ≡ None → standing_due K.features e ≡ None → refusal_of K e ≡ None
+  pub row_good : IsRowEdit e → row_refusal K.setup.schema K.features.rows e ≡ None → standing_refusal K.features e ≡ None → refusal_of K e ≡ None
   row_good word p q = of_three None None None p q (row_alone (setting K.setup) K.features e word)
 
   pub row_bad : (r : Refusal) → row_refusal K.setup.schema K.features.rows e ≡ Some r → refusal_of K e ≡ Some r
   row_bad r p = of_three (Some r) _ _ p refl refl
 
-  pub standing_bad : (r : Refusal) → row_refusal K.setup.schema K.features.rows e ≡ None → standing_due K.features e ≡ Some r → refusal_of K e ≡ Some r
+  pub standing_bad : (r : Refusal) → row_refusal K.setup.schema K.features.rows e ≡ None → standing_refusal K.features e ≡ Some r → refusal_of K e ≡ Some r
   standing_bad r p q = of_three None (Some r) _ p q refl
 
-  link_alone : IsLinkEdit e → (row_refusal K.setup.schema K.features.rows e ≡ None) × (standing_due K.features e ≡ None)
+  link_alone : IsLinkEdit e → (row_refusal K.setup.schema K.features.rows e ≡ None) × (standing_refusal K.features e ≡ None)
   link_alone = go e
     where
-      go : (e : Edit) → IsLinkEdit e → (row_refusal K.setup.schema K.features.rows e ≡ None) × (standing_due K.features e ≡ None)
+      go : (e : Edit) → IsLinkEdit e → (row_refusal K.setup.schema K.features.rows e ≡ None) × (standing_refusal K.features e ≡ None)
       go (edit.Connect from to) word = (refl, refl)
       go (edit.Contain container content) word = (refl, refl)
       go (edit.Attach structure content) word = (refl, refl)
@@ -152,10 +152,10 @@ module _ (K : Known) (e : Edit) where
       go (edit.Uncontroller id terminal) word = (refl, refl)
       go _ word = absurd word
 
-  pub link_due : IsLinkEdit e → (d : Option Refusal) → link_refusal (setting K.setup) K.features e ≡ d → refusal_of K e ≡ d
-  link_due word d r = let none = link_alone word in of_three None None d none.0 none.1 r ∙ alone_is d
+  pub link_refused : IsLinkEdit e → (d : Option Refusal) → link_refusal (setting K.setup) K.features e ≡ d → refusal_of K e ≡ d
+  link_refused word d r = let none = link_alone word in of_three None None d none.0 none.1 r ∙ alone_is d
     where
-      alone_is : (d : Option Refusal) → first_due (None ∷ None ∷ d ∷ []) ≡ d
+      alone_is : (d : Option Refusal) → first_refusal (None ∷ None ∷ d ∷ []) ≡ d
       alone_is None = refl
       alone_is (Some r) = refl
 

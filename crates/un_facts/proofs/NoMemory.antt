@@ -14,7 +14,8 @@ use Rattle.un_defs.specs.declared.edit.Edit.TheVariants as edit
 use Rattle.un_defs.specs.declared.refusal.Refusal.{Refusal}
 use Rattle.un_defs.specs.declared.refusal.Refusal.TheVariants as refusal
 use Rattle.un_defs.specs.declared.refusal.Limit.TheVariants as limit
-use Rattle.un_defs.specs.Dues.{first_due, due_if}
+use Rattle.un_defs.specs.Refusing.{first_refusal, refused_if}
+use Rattle.un_defs.proofs.NoMemory.{IsOther, AreOther, first_other, other_where}
 use Rattle.un_defs.specs.Features.{Features, association, is_joint, is_line, has_terminal, row}
 use Rattle.un_defs.specs.Star.{controller_at}
 use Rattle.un_defs.specs.Change.{Setting}
@@ -23,26 +24,7 @@ use Rattle.un_store.specs.Refusals.{refusal_of as row_refusal, no_kind, of_kind,
 use Rattle.un_assoc.specs.Containing.{container_of, contents_count, containers_above}
 use Rattle.un_assoc.specs.Refusals.{refusal_of as link_refusal, no_feature, of_feature, of_both, not_joints, no_terminal, not_containing, not_attaching, not_controlling, may_control, in_itself, in_another, no_room as no_room_to_associate, no_room_in, most_associations, most_contents, most_controllers, no_association, no_tier, is_controlled, no_controller, no_room_to_control, port_at}
 use Rattle.un_facts.specs.Known.{Known, setting}
-use Rattle.un_facts.specs.Refusals.{has_associations, has_controllers, standing_due, refusal_of}
-
--- a refusal that may be due is none of want of memory
-unfoldable pub IsOther : Option Refusal → Type 0
-IsOther d = IfSome d (λ r. r ≢ refusal.Memory)
-
-unfoldable pub AreOther : List (Option Refusal) → Type 0
-AreOther [] = ⊤
-AreOther (d ∷ ds) = IsOther d × AreOther ds
-
-pub first_other : (ds : List (Option Refusal)) → AreOther ds → IsOther (first_due ds)
-unfolding IsOther AreOther
-first_other [] others = tt
-first_other (None ∷ ds) others = first_other ds others.1
-first_other (Some r ∷ ds) others = others.0
-
-pub due_where : (b : Bool) (r : Refusal) → r ≢ refusal.Memory → IsOther (due_if b r)
-unfolding IsOther
-due_where true r other = other
-due_where false r other = tt
+use Rattle.un_facts.specs.Refusals.{has_associations, has_controllers, standing_refusal, refusal_of}
 
 -- ---- edits
 
@@ -54,15 +36,15 @@ kind_other S name = go (kind_named S name)
     go None = λ e. cc
     go (Some k) = tt
 
-of_kind_other : (S : Catalog) (name : List ℕ) (due : Kind → Option Refusal) → ((k : Kind) → IsOther (due k)) → IsOther (of_kind S name due)
+of_kind_other : (S : Catalog) (name : List ℕ) (cause : Kind → Option Refusal) → ((k : Kind) → IsOther (cause k)) → IsOther (of_kind S name cause)
 unfolding IsOther
-of_kind_other S name due other = go (kind_named S name)
+of_kind_other S name cause other = go (kind_named S name)
   where
-    at : (o : Option Kind) → IsOther (option_and_then due o)
+    at : (o : Option Kind) → IsOther (option_and_then cause o)
     at None = tt
     at (Some k) = other k
 
-    go : (o : Option ℕ) → IsOther (option_and_then (λ k. option_and_then due (kind_at S k)) o)
+    go : (o : Option ℕ) → IsOther (option_and_then (λ k. option_and_then cause (kind_at S k)) o)
     go None = tt
     go (Some k) = at (kind_at S k)
 
@@ -75,15 +57,15 @@ row_other : (rows : List Row) (id base : ℕ) → IsOther (no_row rows id base)
 unfolding IsOther
 row_other rows id base = go (row_with rows id)
   where
-    go : (o : Option Row) → IsOther (option_map_or (λ r. due_if (not (r.moment == base)) (refusal.Moved r.moment)) o (Some (refusal.NoSuchFeature id)))
+    go : (o : Option Row) → IsOther (option_map_or (λ r. refused_if (not (r.moment == base)) (refusal.Moved r.moment)) o (Some (refusal.NoSuchFeature id)))
     go None = λ e. cc
-    go (Some r) = due_where (not (r.moment == base)) (refusal.Moved r.moment) (λ e. cc)
+    go (Some r) = other_where (not (r.moment == base)) (refusal.Moved r.moment) (λ e. cc)
 
-of_row_other : (rows : List Row) (id : ℕ) (due : Row → Option Refusal) → ((r : Row) → IsOther (due r)) → IsOther (of_row rows id due)
+of_row_other : (rows : List Row) (id : ℕ) (cause : Row → Option Refusal) → ((r : Row) → IsOther (cause r)) → IsOther (of_row rows id cause)
 unfolding IsOther
-of_row_other rows id due other = go (row_with rows id)
+of_row_other rows id cause other = go (row_with rows id)
   where
-    go : (o : Option Row) → IsOther (option_and_then due o)
+    go : (o : Option Row) → IsOther (option_and_then cause o)
     go None = tt
     go (Some r) = other r
 
@@ -94,7 +76,7 @@ attribute_other : (S : Catalog) (attrs : List (List ℕ × ℤ)) → IsOther (ba
 attribute_other S attrs = mapped_other _ _ (λ pair e. cc)
 
 line_other : (r : Row) → IsOther (no_line r)
-line_other r = due_where (not (is_line r.class)) refusal.WrongKind (λ e. cc)
+line_other r = other_where (not (is_line r.class)) refusal.WrongKind (λ e. cc)
 
 pub none_other : IsOther None
 unfolding IsOther
@@ -107,12 +89,12 @@ row_edit_other S rows (edit.Insert kind points attrs flow ends note) = first_oth
       kind_other S kind,
       (
         of_kind_other S kind (λ k. not_plain k.class flow ends)
-            (λ k. due_where (not (is_line k.class) && not (is_both flow && list_all (λ terminal. terminal == 0) ends)) refusal.WrongKind (λ e. cc)),
+            (λ k. other_where (not (is_line k.class) && not (is_both flow && list_all (λ terminal. terminal == 0) ends)) refusal.WrongKind (λ e. cc)),
         (
           of_kind_other S kind (λ k. bad_shape k.class points) (λ k. shape_other k.class points),
           (
             attribute_other S attrs,
-            (due_where (not (nat_lt (length rows) most_rows)) (refusal.Full limit.Features) (λ e. cc), tt),
+            (other_where (not (nat_lt (length rows) most_rows)) (refusal.Full limit.Features) (λ e. cc), tt),
           ),
         ),
       ),
@@ -128,14 +110,14 @@ row_edit_other S rows (edit.Kind id base kind) = first_other
         kind_other S kind,
         (
           of_kind_other S kind (λ k. of_row rows id (other_class k))
-              (λ k. of_row_other rows id (other_class k) (λ r. due_where (not (same_class k.class r.class)) refusal.WrongKind (λ e. cc))),
+              (λ k. of_row_other rows id (other_class k) (λ r. other_where (not (same_class k.class r.class)) refusal.WrongKind (λ e. cc))),
           tt,
         ),
       ),
     )
 row_edit_other S rows (edit.Path id base path) = first_other (no_row rows id base ∷ of_row rows id (no_path S path) ∷ []) (
   row_other rows id base,
-  (of_row_other rows id (no_path S path) (λ r. due_where (not (is_device r.class && is_some (path_named S r.kind path))) refusal.BadPath (λ e. cc)), tt),
+  (of_row_other rows id (no_path S path) (λ r. other_where (not (is_device r.class && is_some (path_named S r.kind path))) refusal.BadPath (λ e. cc)), tt),
 )
 row_edit_other S rows (edit.Flow id base flow) = first_other (no_row rows id base ∷ of_row rows id no_line ∷ [])
     (row_other rows id base, (of_row_other rows id no_line line_other, tt))
@@ -155,9 +137,9 @@ associations_other : (F : Features) (id : ℕ) → IsOther (has_associations F i
 associations_other F id = mapped_other _ _ (λ a e. cc)
 
 controllers_other : (F : Features) (id : ℕ) → IsOther (has_controllers F id)
-controllers_other F id = due_where (list_any (λ c. c.port.feature == id) F.controllers) refusal.HasControllers (λ e. cc)
+controllers_other F id = other_where (list_any (λ c. c.port.feature == id) F.controllers) refusal.HasControllers (λ e. cc)
 
-standing_other : (F : Features) (e : Edit) → IsOther (standing_due F e)
+standing_other : (F : Features) (e : Edit) → IsOther (standing_refusal F e)
 unfolding AreOther
 standing_other F (edit.Kind id base kind) = controllers_other F id
 standing_other F (edit.Delete id base) = first_other (has_associations F id ∷ has_controllers F id ∷ [])
@@ -174,19 +156,19 @@ feature_other F id = go (row F id)
     go None = λ e. cc
     go (Some r) = tt
 
-of_feature_other : (F : Features) (id : ℕ) (due : Row → Option Refusal) → ((r : Row) → IsOther (due r)) → IsOther (of_feature F id due)
+of_feature_other : (F : Features) (id : ℕ) (cause : Row → Option Refusal) → ((r : Row) → IsOther (cause r)) → IsOther (of_feature F id cause)
 unfolding IsOther
-of_feature_other F id due other = go (row F id)
+of_feature_other F id cause other = go (row F id)
   where
-    go : (o : Option Row) → IsOther (option_and_then due o)
+    go : (o : Option Row) → IsOther (option_and_then cause o)
     go None = tt
     go (Some r) = other r
 
-of_both_other : (F : Features) (first second : ℕ) (due : Row → Row → Option Refusal) → ((r s : Row) → IsOther (due r s)) → IsOther (of_both F first second due)
-of_both_other F first second due other = of_feature_other F first (λ r. of_feature F second (due r)) (λ r. of_feature_other F second (due r) (other r))
+of_both_other : (F : Features) (first second : ℕ) (cause : Row → Row → Option Refusal) → ((r s : Row) → IsOther (cause r s)) → IsOther (of_both F first second cause)
+of_both_other F first second cause other = of_feature_other F first (λ r. of_feature F second (cause r)) (λ r. of_feature_other F second (cause r) (other r))
 
 terminal_other : (q : Port) (r : Row) → IsOther (no_terminal q r)
-terminal_other q r = due_where (not (has_terminal r q.number)) (refusal.BadTerminal q.feature) (λ e. cc)
+terminal_other q r = other_where (not (has_terminal r q.number)) (refusal.BadTerminal q.feature) (λ e. cc)
 
 link_other : (T : Setting) (F : Features) (e : Edit) → IsOther (link_refusal T F e)
 unfolding AreOther
@@ -198,12 +180,12 @@ link_other T F (edit.Connect from to) = first_other
         feature_other F to.feature,
         (
           of_both_other F from.feature to.feature (not_joints from to)
-              (λ r s. due_where (not (is_joint r.class && is_joint s.class) || (from.feature == to.feature)) refusal.WrongKind (λ e. cc)),
+              (λ r s. other_where (not (is_joint r.class && is_joint s.class) || (from.feature == to.feature)) refusal.WrongKind (λ e. cc)),
           (
             of_feature_other F from.feature (no_terminal from) (terminal_other from),
             (
               of_feature_other F to.feature (no_terminal to) (terminal_other to),
-              (due_where (not (nat_lt (length F.associations) most_associations)) (refusal.Full limit.Associations) (λ e. cc), tt),
+              (other_where (not (nat_lt (length F.associations) most_associations)) (refusal.Full limit.Associations) (λ e. cc), tt),
             ),
           ),
         ),
@@ -216,14 +198,14 @@ link_other T F (edit.Contain container content) = first_other
       (
         feature_other F content,
         (
-          of_feature_other F container not_containing (λ r. due_where (not (may_contain r.class)) refusal.WrongKind (λ e. cc)),
+          of_feature_other F container not_containing (λ r. other_where (not (may_contain r.class)) refusal.WrongKind (λ e. cc)),
           (
-            due_where ((container == content) || list_any (λ c. c == content) (containers_above F.associations container)) refusal.ContainsItself (λ e. cc),
+            other_where ((container == content) || list_any (λ c. c == content) (containers_above F.associations container)) refusal.ContainsItself (λ e. cc),
             (
               mapped_other (λ c. refusal.AlreadyContained c) (container_of F.associations content) (λ c e. cc),
               (
-                due_where (not (nat_lt (length F.associations) most_associations)) (refusal.Full limit.Associations) (λ e. cc),
-                (due_where (not (nat_lt (contents_count F.associations container) most_contents)) (refusal.Full limit.Contents) (λ e. cc), tt),
+                other_where (not (nat_lt (length F.associations) most_associations)) (refusal.Full limit.Associations) (λ e. cc),
+                (other_where (not (nat_lt (contents_count F.associations container) most_contents)) (refusal.Full limit.Contents) (λ e. cc), tt),
               ),
             ),
           ),
@@ -236,32 +218,32 @@ link_other T F (edit.Attach structure content) = first_other
       (
         feature_other F content,
         (
-          of_both_other F structure content not_attaching (λ r s. due_where (not (is_structure r.class) || is_structure s.class) refusal.WrongKind (λ e. cc)),
-          (due_where (not (nat_lt (length F.associations) most_associations)) (refusal.Full limit.Associations) (λ e. cc), tt),
+          of_both_other F structure content not_attaching (λ r s. other_where (not (is_structure r.class) || is_structure s.class) refusal.WrongKind (λ e. cc)),
+          (other_where (not (nat_lt (length F.associations) most_associations)) (refusal.Full limit.Associations) (λ e. cc), tt),
         ),
       ),
     )
-link_other T F (edit.Detach assoc) = due_where (is_none (association F assoc)) refusal.NoSuchAssociation (λ e. cc)
+link_other T F (edit.Detach assoc) = other_where (is_none (association F assoc)) refusal.NoSuchAssociation (λ e. cc)
 link_other T F (edit.Controller id terminal tier subnet) = first_other
     (no_feature F id ∷ of_feature F id (not_controlling T.catalog) ∷ of_feature F id (no_terminal (port_at id terminal)) ∷ no_tier T.tiers tier
     ∷ is_controlled F (port_at id terminal) ∷ no_room_to_control F.controllers ∷ []) (
       feature_other F id,
       (
-        of_feature_other F id (not_controlling T.catalog) (λ r. due_where (not (may_control T.catalog r)) refusal.NotController (λ e. cc)),
+        of_feature_other F id (not_controlling T.catalog) (λ r. other_where (not (may_control T.catalog r)) refusal.NotController (λ e. cc)),
         (
           of_feature_other F id (no_terminal (port_at id terminal)) (terminal_other (port_at id terminal)),
           (
-            due_where (is_none (place_of tier T.tiers)) refusal.NoSuchTier (λ e. cc),
+            other_where (is_none (place_of tier T.tiers)) refusal.NoSuchTier (λ e. cc),
             (
-              due_where (is_some (controller_at F (port_at id terminal))) refusal.ControllerExists (λ e. cc),
-              (due_where (not (nat_lt (length F.controllers) most_controllers)) (refusal.Full limit.Controllers) (λ e. cc), tt),
+              other_where (is_some (controller_at F (port_at id terminal))) refusal.ControllerExists (λ e. cc),
+              (other_where (not (nat_lt (length F.controllers) most_controllers)) (refusal.Full limit.Controllers) (λ e. cc), tt),
             ),
           ),
         ),
       ),
     )
 link_other T F (edit.Uncontroller id terminal) = first_other (no_feature F id ∷ no_controller F (port_at id terminal) ∷ [])
-    (feature_other F id, (due_where (is_none (controller_at F (port_at id terminal))) refusal.NoSuchController (λ e. cc), tt))
+    (feature_other F id, (other_where (is_none (controller_at F (port_at id terminal))) refusal.NoSuchController (λ e. cc), tt))
 link_other T F (edit.Insert kind points attrs flow ends note) = none_other
 link_other T F (edit.Reshape id base points) = none_other
 link_other T F (edit.Attrs id base attrs) = none_other
@@ -278,5 +260,5 @@ link_other T F (edit.Rule rule) = none_other
 pub edit_other : (K : Known) (e : Edit) → IsOther (refusal_of K e)
 unfolding AreOther
 edit_other K e = first_other
-    (row_refusal K.setup.schema K.features.rows e ∷ standing_due K.features e ∷ link_refusal (setting K.setup) K.features e ∷ [])
+    (row_refusal K.setup.schema K.features.rows e ∷ standing_refusal K.features e ∷ link_refusal (setting K.setup) K.features e ∷ [])
     (row_edit_other K.setup.schema K.features.rows e, (standing_other K.features e, (link_other (setting K.setup) K.features e, tt)))

@@ -7,7 +7,7 @@ use Rattle.un_defs.specs.Features.{Features}
 use Rattle.un_defs.specs.Change.{Setting, Next, changed}
 use Rattle.un_store.specs.Edits.{settled}
 use Rattle.un_assoc.specs.Links.{Links, with_links}
-use Rattle.un_facts.specs.declared.setup.Setup.{Setup}
+use Rattle.un_tiers.specs.declared.setup.Setup.{Setup}
 use Rattle.un_facts.specs.declared.ids.NextIds.{NextIds}
 
 -- the schema and the tiers that a network was opened with, and its features

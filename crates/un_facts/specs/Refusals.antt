@@ -6,7 +6,7 @@ use Rattle.un_defs.specs.declared.edit.Edit.{Edit}
 use Rattle.un_defs.specs.declared.edit.Edit.TheVariants as edit
 use Rattle.un_defs.specs.declared.refusal.Refusal.{Refusal}
 use Rattle.un_defs.specs.declared.refusal.Refusal.TheVariants as refusal
-use Rattle.un_defs.specs.Dues.{first_due, due_if}
+use Rattle.un_defs.specs.Refusing.{first_refusal, refused_if}
 use Rattle.un_defs.specs.Features.{Features, associations_of}
 use Rattle.un_store.specs.Refusals.{refusal_of as row_refusal}
 use Rattle.un_assoc.specs.Refusals.{refusal_of as link_refusal}
@@ -36,18 +36,18 @@ has_associations F id = option_map (λ a. refusal.HasAssociations a.id) (slice_g
 
 -- a controller sits on the row
 abbrev pub has_controllers : Features → ℕ → Option Refusal
-has_controllers F id = due_if (list_any (λ c. c.port.feature == id) F.controllers) refusal.HasControllers
+has_controllers F id = refused_if (list_any (λ c. c.port.feature == id) F.controllers) refusal.HasControllers
 
 -- what stands on a row keeps it from becoming of another kind, and from going
-abbrev pub standing_due : Features → Edit → Option Refusal
-standing_due F (edit.Kind id base kind) = has_controllers F id
-standing_due F (edit.Delete id base) = first_due (has_associations F id ∷ has_controllers F id ∷ [])
-standing_due F _ = None
+abbrev pub standing_refusal : Features → Edit → Option Refusal
+standing_refusal F (edit.Kind id base kind) = has_controllers F id
+standing_refusal F (edit.Delete id base) = first_refusal (has_associations F id ∷ has_controllers F id ∷ [])
+standing_refusal F _ = None
 
 -- the first refusal of an edit: by the row that it is of, by what stands on that row, or by associations and controllers
 abbrev pub refusal_of : Known → Edit → Option Refusal
-refusal_of K e = first_due (
+refusal_of K e = first_refusal (
     row_refusal K.setup.schema K.features.rows e
-    ∷ standing_due K.features e
+    ∷ standing_refusal K.features e
     ∷ link_refusal (setting K.setup) K.features e
     ∷ [])

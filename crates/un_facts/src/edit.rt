@@ -13,12 +13,12 @@ use crate::facts::Facts;
 use crate::ids::NextIds;
 use crate::ports::with_ports;
 use crate::rectangles::row_of;
-use crate::setup::Setup;
 use std::alloc::{AllocError, Global};
 use un_assoc::Assocs;
 use un_assoc::laws::links_alone;
 use un_defs::{Edit, Refusal};
 use un_geom::Rect;
+use un_tiers::Setup;
 
 /// The features once an edit is made, and the rectangles that it makes dirty.
 #[derive(Drop)]

@@ -1,7 +1,7 @@
 //! The features, and the look-ups of them.
-ghost use Rattle.std.specs.Prelude.{◌≡◌, length, map, IfOk};
+ghost use Rattle.std.specs.Prelude.{◌≡◌, length, IfOk};
 ghost use Rattle.std.specs.Option.{option_copied};
-ghost use Rattle.un_defs.specs.Features.{row as row_with, associations_of, controllers_of};
+ghost use Rattle.un_defs.specs.Features.{row as row_with, associations_of};
 ghost use Rattle.un_defs.specs.Ports.{ports};
 ghost use Rattle.un_defs.specs.Star.{controller_at};
 ghost use Rattle.un_facts.specs.Known.{opening, settled_at};
@@ -9,17 +9,16 @@ ghost use Rattle.un_facts.specs.Places.{ArePlaces};
 ghost use Rattle.un_facts.specs.Standing.{IsKnown};
 
 use crate::live::Live;
-use crate::setup::Setup;
 use std::alloc::{AllocError, Global};
 use std::marker::Model;
 use std::sync::Arc;
 use un_assoc::Assocs;
-use un_defs::{Assoc, Controller, Port, Row};
+use un_defs::{Assoc, Controller, Directory, Port, Row};
 use un_geom::{Point, Rect};
 use un_grid::Grid;
 use un_schema::Schema;
 use un_store::Store;
-use un_tiers::Tiers;
+use un_tiers::{Setup, Tiers};
 
 /// The schema and the tiers, the rows, the associations and controllers, and which ports stand where. It never changes: an edit gives new
 /// features, which share with these what stays.
@@ -37,7 +36,7 @@ impl Model for Facts {
     ghost use Rattle.un_grid.specs.Grids.{IsGridOf};
     ghost use Rattle.un_facts.specs.Known.{Known, features_of};
     ghost use Rattle.un_facts.specs.Standing.{IsKnown};
-    ghost use Rattle.un_facts.specs.contracts.setup.Setup as setup_row;
+    ghost use Rattle.un_tiers.specs.contracts.setup.Setup as setup_row;
 
     ghost Value = { Known };
 
@@ -118,19 +117,6 @@ impl Facts {
         self.assocs.controller_at(port)
     }
 
-    /// The ports of the controllers of a subnetwork, in their order. All controllers are looked at.
-    pub fn controllers_of(
-        &self,
-        alloc: Global,
-        tier: u8,
-        subnet: &str,
-    ) -> Result<Vec<Port>, AllocError>
-        ensures { IfOk result (λ ports. ports.items ≡ map (λ c. c.port) (controllers_of self.now.features tier subnet.now)) }
-    {
-        let ports = self.assocs.controllers_of(alloc, tier, subnet)?;
-        Ok(ports)
-    }
-
     /// The features as stars are built of them.
     pub fn live(&self) -> Live<'_>
         ensures { result.facts.now ≡ self.now }
@@ -165,5 +151,26 @@ impl Facts {
             assocs: self.assocs.share()?,
             grid: self.grid.share()?,
         })
+    }
+}
+
+impl Directory for Facts {
+    ghost use Rattle.un_facts.specs.Known.{Known};
+
+    ghost features = { λ (k : Known). k.features };
+
+    fn row(&self, id: u64) -> Option<&Row> {
+        Facts::row(self, id)
+    }
+
+    /// All controllers are looked at.
+    fn controllers_of(
+        &self,
+        alloc: Global,
+        tier: u8,
+        subnet: &str,
+    ) -> Result<Vec<Port>, AllocError> {
+        let ports = self.assocs.controllers_of(alloc, tier, subnet)?;
+        Ok(ports)
     }
 }

@@ -31,11 +31,9 @@ pub mod laws;
 pub mod live;
 mod ports;
 mod rectangles;
-pub mod setup;
 mod standing;
 
 pub use edit::Made;
 pub use facts::Facts;
 pub use ids::NextIds;
 pub use live::Live;
-pub use setup::Setup;

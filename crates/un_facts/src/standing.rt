@@ -1,6 +1,6 @@
 //! What stands on a row and keeps an edit from it.
 ghost use Rattle.std.specs.Prelude.{◌≡◌, Some, None, OnOk, IfErr};
-ghost use Rattle.un_facts.specs.Refusals.{has_associations, has_controllers, standing_due};
+ghost use Rattle.un_facts.specs.Refusals.{has_associations, has_controllers, standing_refusal};
 
 use crate::facts::Facts;
 use un_defs::{Edit, Refusal};
@@ -31,8 +31,8 @@ impl Facts {
 
     /// Refuses what stands on a row that is to become of another kind or to go.
     pub(crate) fn check_standing(&self, edit: &Edit) -> Result<(), Refusal>
-        ensures good { OnOk result (standing_due self.now.features edit.now ≡ None) }
-        ensures bad { IfErr result (λ refusal. standing_due self.now.features edit.now ≡ Some refusal) }
+        ensures good { OnOk result (standing_refusal self.now.features edit.now ≡ None) }
+        ensures bad { IfErr result (λ refusal. standing_refusal self.now.features edit.now ≡ Some refusal) }
     {
         match edit {
             Edit::Kind { id, .. } => self.check_controllers(*id),

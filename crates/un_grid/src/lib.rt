@@ -19,8 +19,6 @@
 mod grid;
 mod laws;
 mod port_list;
-#[cfg(test)]
-mod tests;
 
 pub use grid::Grid;
 pub use laws::{insert_law, remove_law, replace_law, stay_law};

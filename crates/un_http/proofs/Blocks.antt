@@ -15,17 +15,17 @@ use Rattle.un_http.specs.Head.{Fails}
 use Rattle.un_http.specs.Requests.{IsBlock, IsInBody}
 use Rattle.un_http.specs.Taking.{HoldsRequest, RefusedAt, TakesBegun, Takes}
 
-take_take_front : (k n : ℕ) (bytes : List ℕ) → k ≤ n → take k (take n bytes) ≡ take k bytes
-take_take_front k n bytes le = grind (arith, common_steps)
+take_take_prefix : (k n : ℕ) (bytes : List ℕ) → k ≤ n → take k (take n bytes) ≡ take k bytes
+take_take_prefix k n bytes le = grind (arith, common_steps)
 
 pub begins_more : (bytes more : List ℕ) → Begins bytes → Begins (bytes ++ more)
 begins_more [] more b = absurd b
 begins_more (x ∷ bytes) more b = b
 
-begins_front : (bytes : List ℕ) (n : ℕ) → Begins bytes → 0 < n → Begins (take n bytes)
-begins_front [] n b some = absurd b
-begins_front (x ∷ bytes) zero b some = absurd (omega arith)
-begins_front (x ∷ bytes) (suc n) b some = b
+begins_prefix : (bytes : List ℕ) (n : ℕ) → Begins bytes → 0 < n → Begins (take n bytes)
+begins_prefix [] n b some = absurd b
+begins_prefix (x ∷ bytes) zero b some = absurd (omega arith)
+begins_prefix (x ∷ bytes) (suc n) b some = b
 
 -- an end isn't at no byte
 some_end : (bytes : List ℕ) (n : ℕ) → EndsAt bytes n → 0 < n
@@ -46,11 +46,11 @@ pub is_block : (bytes : List ℕ) (n : ℕ) → Begins bytes → EndsAt bytes n 
 is_block bytes n b e short =
     let size = length-take-le n bytes e.within in
     record {
-      begins = begins_front bytes n b (some_end bytes n e);
+      begins = begins_prefix bytes n b (some_end bytes n e);
       ends = record {
         within = omega arith;
-        ends = rw (size, take_take_front n n bytes (omega arith)) e.ends;
-        first = λ k below. let lt : k < n = omega (arith, size, below) in rw (take_take_front k n bytes (omega (arith, lt))) (e.first k lt);
+        ends = rw (size, take_take_prefix n n bytes (omega arith)) e.ends;
+        first = λ k below. let lt : k < n = omega (arith, size, below) in rw (take_take_prefix k n bytes (omega (arith, lt))) (e.first k lt);
       };
       short = omega (arith, size, short);
     }
@@ -63,9 +63,9 @@ too_long bytes b long none = record {
   is_refused = inl (
     refl,
     record {
-      begins = begins_front bytes 8192 b (omega arith);
+      begins = begins_prefix bytes 8192 b (omega arith);
       size = length-take-le 8192 bytes long;
-      endless = λ k le. rw (take_take_front k 8192 bytes le) (none k le);
+      endless = λ k le. rw (take_take_prefix k 8192 bytes le) (none k le);
     },
   );
 }
@@ -91,7 +91,7 @@ holds left left' bytes bytes' n passed b e short is more whole = record {
 -- the input ended in its body
 pub in_body : (left left' : Option (List ℕ)) (bytes bytes' : List ℕ) (n : ℕ) (passed : Passed) → Begins bytes → EndsAt bytes n → n ≤ 8192 → IsPassed (take n bytes) passed → More left left' bytes bytes' → length bytes' < n + passed.size → IsInBody bytes'
 in_body left left' bytes bytes' n passed b e short is more part =
-    let front : take n bytes' ≡ take n bytes = rw more.1.1 (take-append-le n bytes more.0 e.within) in
+    let prefix : take n bytes' ≡ take n bytes = rw more.1.1 (take-append-le n bytes more.0 e.within) in
     let head = is.1 in
     let rest = length-drop n bytes' in
     let size = head.size in
@@ -100,7 +100,7 @@ in_body left left' bytes bytes' n passed b e short is more part =
       block = take n bytes;
       part = drop n bytes';
       head = is.0;
-      cut = sym (take-append-drop n bytes') ∙ ap (λ x. x ++ drop n bytes') front;
+      cut = sym (take-append-drop n bytes') ∙ ap (λ x. x ++ drop n bytes') prefix;
       is_block = is_block bytes n b e short;
       is_head = head.is_head;
       passes = head.passes;

@@ -12,8 +12,8 @@ use Rattle.un_http.specs.Taking.{Takes}
 use Rattle.un_http.proofs.Blocks.{is_block}
 
 -- a span of a front
-span_front : (bytes : List ℕ) (n : ℕ) (s : Span) → IsWithin (length (take n bytes)) s → span_bytes bytes s ≡ span_bytes (take n bytes) s
-span_front bytes n s within =
+span_prefix : (bytes : List ℕ) (n : ℕ) (s : Span) → IsWithin (length (take n bytes)) s → span_bytes bytes s ≡ span_bytes (take n bytes) s
+span_prefix bytes n s within =
     let size = length-take n bytes in
     let last : s.end ≤ n = grind (arith, common_steps, within.1, size) in
     let first : s.start ≤ s.end = within.0 in
@@ -45,8 +45,8 @@ gives all bytes left passed n t =
       is_block = is_block bytes n holds.begins holds.ends holds.short;
       is_head = head.is_head;
       passes = head.passes;
-      method = span_front bytes n passed.method head.method_within ∙ head.method;
-      path = span_front bytes n passed.path head.path_within ∙ head.path;
+      method = span_prefix bytes n passed.method head.method_within ∙ head.method;
+      path = span_prefix bytes n passed.path head.path_within ∙ head.path;
       size = ap (λ k. length (take k (drop n bytes))) exact ∙ length-take-le passed.size (drop n bytes) fits ∙ head.size;
       close = head.close;
     }

@@ -32,7 +32,7 @@ drop_behind (x ∷ a) b =
 
 pub record CutAt (names a b : List ℕ) (at : ℕ) : Type 0 where
   pub within : at < length names
-  pub front : take at names ≡ a
+  pub prefix : take at names ≡ a
   pub back : drop (at + 1) names ≡ b
 
 pub cut_names : (names a b : List ℕ) (at : ℕ) → at ≡ position_or_len (λ x. x == 47) names → names ≡ a ++ 47 ∷ b → is_name a ≡ true → CutAt names a b at
@@ -40,7 +40,7 @@ cut_names names a b at e cut is =
     let size : at ≡ length a = e ∙ ap (position_or_len (λ x. x == 47)) cut ∙ slash_place a b (grind (arith, nat_tests)) in
     record {
       within = grind (arith, common_steps);
-      front = rw cut (grind (arith, common_steps));
+      prefix = rw cut (grind (arith, common_steps));
       back = rw (cut, size) (drop_behind a b);
     }
 

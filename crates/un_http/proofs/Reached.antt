@@ -95,8 +95,8 @@ feature_at (b ∷ text) is =
     let digits : list_all is_ascii_digit (b ∷ text) ≡ true = grind (arith, nat_tests) in
     let low : b < 128 = digit_low b (grind (arith, nat_tests)) in
     let ascii = IsUtf8-from_ascii (b ∷ text) (ascii_from is_ascii_digit digit_low (b ∷ text) digits) in
-    let front : IsUtf8 (codes "/features/") = IsUtf8-from_ascii (codes "/features/") (ascii_literal (codes "/features/") refl) in
-    at_text _ feature_row.1 (IsUtf8-append (codes "/features/") (b ∷ text) front ascii) (features b text low (slashless is_ascii_digit digit_other (b ∷ text) digits))
+    let prefix : IsUtf8 (codes "/features/") = IsUtf8-from_ascii (codes "/features/") (ascii_literal (codes "/features/") refl) in
+    at_text _ feature_row.1 (IsUtf8-append (codes "/features/") (b ∷ text) prefix ascii) (features b text low (slashless is_ascii_digit digit_other (b ∷ text) digits))
 
 subnetwork_at : (a b : List ℕ) → is_name a ≡ true → is_name b ≡ true → kind_at (codes "/subnetworks/" ++ (a ++ 47 ∷ b)) ≡ Some Subnetwork
 subnetwork_at [] b is is' = absurd (none is)
@@ -114,8 +114,8 @@ subnetwork_at (x ∷ a) (y ∷ b) is is' =
     let low' : y < 128 = name_low y (grind (arith, nat_tests)) in
     let text = IsUtf8-from_ascii (x ∷ a) (ascii_from is_name_byte name_low (x ∷ a) one) in
     let text' = IsUtf8-from_ascii (47 ∷ (y ∷ b)) (IsAscii-cons 47 (y ∷ b) (omega arith) (ascii_from is_name_byte name_low (y ∷ b) two)) in
-    let front : IsUtf8 (codes "/subnetworks/") = IsUtf8-from_ascii (codes "/subnetworks/") (ascii_literal (codes "/subnetworks/") refl) in
-    at_text _ subnetwork_row.1 (IsUtf8-append (codes "/subnetworks/") _ front (IsUtf8-append (x ∷ a) (47 ∷ (y ∷ b)) text text'))
+    let prefix : IsUtf8 (codes "/subnetworks/") = IsUtf8-from_ascii (codes "/subnetworks/") (ascii_literal (codes "/subnetworks/") refl) in
+    at_text _ subnetwork_row.1 (IsUtf8-append (codes "/subnetworks/") _ prefix (IsUtf8-append (x ∷ a) (47 ∷ (y ∷ b)) text text'))
     (subnetworks x a y b low (name_slashless (x ∷ a) is) low' (name_slashless (y ∷ b) is'))
 
 -- the router finds the kind of a path's route

@@ -19,7 +19,7 @@ fn blank_len(bytes: &[u8]) -> usize
 }
 
 /// Drops the first `count` bytes.
-pub(crate) fn drop_front(bytes: &mut Vec<u8>, count: usize)
+pub(crate) fn drop_prefix(bytes: &mut Vec<u8>, count: usize)
     requires { count ≤ vec_len bytes.old }
     ensures items { bytes.new.items ≡ drop count bytes.old.items }
     ensures capacity { vec_capacity bytes.new ≡ vec_capacity bytes.old }
@@ -36,7 +36,7 @@ pub(crate) fn drop_blank(bytes: &mut Vec<u8>)
     ensures capacity { vec_capacity bytes.new ≡ vec_capacity bytes.old }
 {
     let count = blank_len(bytes);
-    drop_front(bytes, count);
+    drop_prefix(bytes, count);
 }
 
 // Whether the bytes end with the end of a line and then an empty line.

@@ -7,7 +7,7 @@ ghost use Rattle.std.specs.Io.KnownBytes.{Consumes};
 ghost use Rattle.un_io.specs.Outside.{Rose};
 ghost use Rattle.un_http.specs.Answers.{Answers};
 
-use crate::block::drop_front;
+use crate::block::drop_prefix;
 use crate::check::Check;
 use crate::head::{HEADER_ROOM, MOST_BLOCK, MOST_BODY};
 use crate::take::{Taken, take_request};
@@ -131,7 +131,7 @@ pub fn next_request<R: Wait, X: Link>(rt: &R, inbox: &mut Inbox, link: &mut X) -
     ensures keeps_taken { X.taken link.new ≡ X.taken link.old }
     ensures keeps_count { X.write_faults link.new ≡ X.write_faults link.old }
 {
-    drop_front(&mut inbox.bytes, inbox.used);
+    drop_prefix(&mut inbox.bytes, inbox.used);
     inbox.method = NOTHING;
     inbox.path = NOTHING;
     inbox.block = 0;

@@ -36,6 +36,3 @@ pub use law::{one_more, one_reading};
 pub use response::print_head;
 pub use route::Route;
 pub use routes::Routes;
-
-#[cfg(test)]
-mod tests;

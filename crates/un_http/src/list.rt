@@ -5,7 +5,7 @@ ghost use Rattle.httparse.specs.Grammar.{trim_ows, skip_ows};
 ghost use Rattle.un_http.specs.Head.{lists_close};
 
 // The text without the white space in front.
-fn trim_front(text: &[u8]) -> &[u8]
+fn trim_prefix(text: &[u8]) -> &[u8]
     ensures { result.now ≡ skip_ows text.now }
 {
     let mut rest = text;
@@ -20,8 +20,8 @@ fn trim_back(text: &[u8]) -> &[u8]
     ensures { reverse result.now ≡ skip_ows (reverse text.now) }
 {
     let mut rest = text;
-    while let [front @ .., b' ' | b'\t'] = rest {
-        rest = front;
+    while let [prefix @ .., b' ' | b'\t'] = rest {
+        rest = prefix;
     }
     rest
 }
@@ -30,7 +30,7 @@ fn trim_back(text: &[u8]) -> &[u8]
 fn trim(text: &[u8]) -> &[u8]
     ensures { result.now ≡ trim_ows text.now }
 {
-    trim_back(trim_front(text))
+    trim_back(trim_prefix(text))
 }
 
 // Whether an item is `close`.

@@ -9,8 +9,6 @@
 #![tactic(auto)]
 
 pub mod index;
-#[cfg(test)]
-mod tests;
 
 pub use index::Index;
 pub use un_pages::Memory;

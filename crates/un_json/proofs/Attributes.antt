@@ -18,27 +18,27 @@ abbrev Entry : Type 0
 Entry = String Global × Value
 
 abbrev pub behind : List (List ℕ × ℤ) → Option (List (List ℕ × ℤ)) → Option (List (List ℕ × ℤ))
-behind front rest = option_map (λ xs. front ++ xs) rest
+behind prefix rest = option_map (λ xs. prefix ++ xs) rest
 
 -- what the members from here on are, behind what those before are, is what all are
-pub record HasRead (front : List (List ℕ × ℤ)) (rest all : List Entry) : Type 0 where
-  pub same : behind front (each_attribute (members_view rest)) ≡ each_attribute (members_view all)
+pub record HasRead (prefix : List (List ℕ × ℤ)) (rest all : List Entry) : Type 0 where
+  pub same : behind prefix (each_attribute (members_view rest)) ≡ each_attribute (members_view all)
 
 -- one more member is read
-pub read_on : (front : List (List ℕ × ℤ)) (k : String Global) (v : Value) (pair : List ℕ × ℤ) (rest all : List Entry) → HasRead front ((k, v) ∷ rest) all → Some pair ≡ attribute_of (string_bytes k) (view v) → HasRead (front ++ pair ∷ []) rest all
-read_on front k v pair rest all h is = record { same = regroup (each_attribute (members_view rest)) ∙ (rw (← is) at h.same) }
+pub read_on : (prefix : List (List ℕ × ℤ)) (k : String Global) (v : Value) (pair : List ℕ × ℤ) (rest all : List Entry) → HasRead prefix ((k, v) ∷ rest) all → Some pair ≡ attribute_of (string_bytes k) (view v) → HasRead (prefix ++ pair ∷ []) rest all
+read_on prefix k v pair rest all h is = record { same = regroup (each_attribute (members_view rest)) ∙ (rw (← is) at h.same) }
   where
-    regroup : (r : Option (List (List ℕ × ℤ))) → behind (front ++ pair ∷ []) r ≡ behind front (option_map (λ xs. pair ∷ xs) r)
+    regroup : (r : Option (List (List ℕ × ℤ))) → behind (prefix ++ pair ∷ []) r ≡ behind prefix (option_map (λ xs. pair ∷ xs) r)
     regroup None = refl
-    regroup (Some xs) = ap Some (append_assoc front (pair ∷ []) xs)
+    regroup (Some xs) = ap Some (append_assoc prefix (pair ∷ []) xs)
 
 -- one member is none
-pub read_none : (front : List (List ℕ × ℤ)) (k : String Global) (v : Value) (rest all : List Entry) → HasRead front ((k, v) ∷ rest) all → None ≡ attribute_of (string_bytes k) (view v) → None ≡ each_attribute (members_view all)
-read_none front k v rest all h is = rw (← is) at h.same
+pub read_none : (prefix : List (List ℕ × ℤ)) (k : String Global) (v : Value) (rest all : List Entry) → HasRead prefix ((k, v) ∷ rest) all → None ≡ attribute_of (string_bytes k) (view v) → None ≡ each_attribute (members_view all)
+read_none prefix k v rest all h is = rw (← is) at h.same
 
 -- all members are read
-pub read_all : (front : List (List ℕ × ℤ)) (all : List Entry) → HasRead front [] all → Some front ≡ each_attribute (members_view all)
-read_all front all h = sym (ap Some (append-nil front)) ∙ h.same
+pub read_all : (prefix : List (List ℕ × ℤ)) (all : List Entry) → HasRead prefix [] all → Some prefix ≡ each_attribute (members_view all)
+read_all prefix all h = sym (ap Some (append-nil prefix)) ∙ h.same
 
 -- an attribute has the name of its member
 same_name : (name : List ℕ) (d : Data) (pair : List ℕ × ℤ) → attribute_of name d ≡ Some pair → pair.0 ≡ name

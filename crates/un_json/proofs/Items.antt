@@ -46,24 +46,24 @@ not_port d vs is other = not_pair port id_of (count_from_to 0 63) d vs is other
 
 -- with these elements before
 abbrev pub behind : {A : Type 0} → List A → Option (List A) → Option (List A)
-behind front rest = option_map (λ xs. front ++ xs) rest
+behind prefix rest = option_map (λ xs. prefix ++ xs) rest
 
 -- what the values from here on are, behind what those before are, is what all are
-pub record HasRead {A : Type 0} (f : Data → Option A) (front : List A) (rest all : List Value) : Type 0 where
-  pub same : behind front (each_item f (items_view rest)) ≡ each_item f (items_view all)
+pub record HasRead {A : Type 0} (f : Data → Option A) (prefix : List A) (rest all : List Value) : Type 0 where
+  pub same : behind prefix (each_item f (items_view rest)) ≡ each_item f (items_view all)
 
 -- one more value is read
-pub read_on : {A : Type 0} (f : Data → Option A) (front : List A) (v : Value) (x : A) (rest all : List Value) → HasRead f front (v ∷ rest) all → f (view v) ≡ Some x → HasRead f (front ++ x ∷ []) rest all
-read_on f front v x rest all h is = record { same = regroup (each_item f (items_view rest)) ∙ (rw is at h.same) }
+pub read_on : {A : Type 0} (f : Data → Option A) (prefix : List A) (v : Value) (x : A) (rest all : List Value) → HasRead f prefix (v ∷ rest) all → f (view v) ≡ Some x → HasRead f (prefix ++ x ∷ []) rest all
+read_on f prefix v x rest all h is = record { same = regroup (each_item f (items_view rest)) ∙ (rw is at h.same) }
   where
-    regroup : (r : Option (List _)) → behind (front ++ x ∷ []) r ≡ behind front (option_map (λ xs. x ∷ xs) r)
+    regroup : (r : Option (List _)) → behind (prefix ++ x ∷ []) r ≡ behind prefix (option_map (λ xs. x ∷ xs) r)
     regroup None = refl
-    regroup (Some xs) = ap Some (append_assoc front (x ∷ []) xs)
+    regroup (Some xs) = ap Some (append_assoc prefix (x ∷ []) xs)
 
 -- one value is nothing, so all are nothing
-pub read_none : {A : Type 0} (f : Data → Option A) (front : List A) (v : Value) (rest all : List Value) → HasRead f front (v ∷ rest) all → f (view v) ≡ None → each_item f (items_view all) ≡ None
-read_none f front v rest all h is = sym (rw is at h.same)
+pub read_none : {A : Type 0} (f : Data → Option A) (prefix : List A) (v : Value) (rest all : List Value) → HasRead f prefix (v ∷ rest) all → f (view v) ≡ None → each_item f (items_view all) ≡ None
+read_none f prefix v rest all h is = sym (rw is at h.same)
 
 -- all values are read
-pub read_all : {A : Type 0} (f : Data → Option A) (front : List A) (all : List Value) → HasRead f front [] all → each_item f (items_view all) ≡ Some front
-read_all f front all h = sym h.same ∙ ap Some (append-nil front)
+pub read_all : {A : Type 0} (f : Data → Option A) (prefix : List A) (all : List Value) → HasRead f prefix [] all → each_item f (items_view all) ≡ Some prefix
+read_all f prefix all h = sym h.same ∙ ap Some (append-nil prefix)

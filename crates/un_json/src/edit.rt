@@ -9,7 +9,7 @@ use crate::attrs::NamedValues;
 use crate::fault::ReadFault;
 use crate::form::{may, need, only};
 use crate::list::{Ends, PortForm, Vertices};
-use crate::scalar::{Base, Id, Named, Noted, Terminal, Way};
+use crate::scalar::{Base, Direction, Id, Named, Noted, Terminal};
 use serde_json::Value;
 use std::alloc::Global;
 use un_ask::{Edit, EditWord, NamedAttrs, Place};
@@ -22,7 +22,7 @@ fn read_insert(alloc: Global, object: &Value) -> Result<Edit, ReadFault>
     let kind = need::<Named>(alloc, object, Place::Kind)?;
     let points = need::<Vertices>(alloc, object, Place::Points)?;
     let attrs = may::<NamedValues>(alloc, object, Place::Attrs, no_attrs(alloc))?;
-    let flow = may::<Way>(alloc, object, Place::Flow, Flow::Both)?;
+    let flow = may::<Direction>(alloc, object, Place::Flow, Flow::Both)?;
     let ends = may::<Ends>(alloc, object, Place::Ends, [0, 0])?;
     let note = may::<Noted>(alloc, object, Place::Note, no_note(alloc))?;
     only(
@@ -97,7 +97,7 @@ fn read_flow(alloc: Global, object: &Value) -> Result<Edit, ReadFault>
 {
     let id = need::<Id>(alloc, object, Place::Id)?;
     let base = need::<Base>(alloc, object, Place::Base)?;
-    let flow = need::<Way>(alloc, object, Place::Flow)?;
+    let flow = need::<Direction>(alloc, object, Place::Flow)?;
     only(object, &[Place::Do, Place::Id, Place::Base, Place::Flow])?;
     Ok(Edit::Flow { id, base, flow })
 }

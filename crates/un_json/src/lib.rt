@@ -13,8 +13,6 @@ mod query;
 pub mod request;
 pub mod rule;
 pub mod scalar;
-#[cfg(test)]
-mod tests;
 mod words;
 
 pub use fault::ReadFault;

@@ -158,9 +158,9 @@ impl Form for Noted {
 }
 
 /// The way of flow along a line.
-pub(crate) struct Way;
+pub(crate) struct Direction;
 
-impl Form for Way {
+impl Form for Direction {
     ghost use Rattle.un_json.specs.Forms.{flow_of};
 
     type Out = Flow;

@@ -2,17 +2,18 @@
 use Rattle.std.specs.Prelude.{◌≡◌, List, Option, Some, None, IsTrue}
 use Rattle.un_defs.specs.declared.port.Node.{Node}
 use Rattle.un_defs.specs.declared.walk.Mode.TheVariants.{Any}
+use Rattle.un_defs.specs.declared.walk.Barriers.{Barriers}
 use Rattle.un_defs.specs.declared.walk.Dirt.{Dirt}
-use Rattle.un_defs.specs.declared.refusal.Refusal.TheVariants.{DirtyGround}
 use Rattle.un_defs.specs.Ground.{Ground}
 use Rattle.un_defs.specs.Reach.{IsReach, leads, dirt}
 use Rattle.un_defs.specs.Linked.{AreLinked}
 use Rattle.un_ask.specs.declared.trace.TraceKind.TheVariants.{Loops as LoopsKind}
 use Rattle.un_ask.specs.declared.typed.TypedAsk.{TypedAsk}
-use Rattle.un_ask.specs.declared.results.Segment.{Segment}
 use Rattle.un_ask.specs.declared.reply.Reply.{Reply}
-use Rattle.un_ask.specs.declared.reply.Reply.TheVariants.{Loops, Refused}
+use Rattle.un_ask.specs.declared.reply.Reply.TheVariants.{Loops}
+use Rattle.un_ask.specs.Replies.{on_dirty_ground}
 use Rattle.un_loops.specs.Loops.{AreLoops}
+use Rattle.un_loops.specs.LoopList.{loop_segments}
 
 -- the nodes in which a walk of the trace ends
 abbrev pub IsReachOf : Ground → TypedAsk → List Node → Type 0
@@ -27,17 +28,21 @@ pub record IsForLoops (ask : TypedAsk) : Type 0 where
 abbrev pub AreLinkedOnCleanGround : Ground → TypedAsk → Type 0
 AreLinkedOnCleanGround G ask = (reached : List Node) → IsReachOf G ask reached → dirt G reached ≡ None → AreLinked G reached
 
--- a refusal for dirt, which names the area and the port
-abbrev pub refused_by : Dirt → Reply
-refused_by d = Refused (DirtyGround d.area d.port.feature d.port.number) None 0
+-- the reply, given the dirt that was met: its refusal, or the loop segments. The caller puts in the version.
+abbrev pub loops_given_dirt : Option Dirt → Ground → TypedAsk → List Node → Reply
+loops_given_dirt (Some d) G ask reached = on_dirty_ground d
+loops_given_dirt None G ask reached = Loops (loop_segments G ask.barriers reached) 0
 
--- the reply names the dirt that was met, or tells exactly the loop segments, rising
-abbrev pub IsReply : Ground → TypedAsk → List Node → Option Dirt → Reply → Type 0
-IsReply G ask reached (Some d) reply = reply ≡ refused_by d
-IsReply G ask reached None reply = (segments : List Segment) × AreLoops G ask.barriers reached segments × (reply ≡ Loops segments 0)
+-- the reply to a trace that reached these nodes
+abbrev pub loops_reply : Ground → TypedAsk → List Node → Reply
+loops_reply G ask reached = loops_given_dirt (dirt G reached) G ask reached
 
--- the reply is the answer. The caller puts in the version.
+-- of the nodes that a trace reaches, the list has exactly the segments that lie on a loop
+abbrev pub LoopListLaw : Type 0
+LoopListLaw = (G : Ground) (B : Barriers) (starts reached : List Node) → IsReach (leads G B Any) starts reached → AreLoops G B reached (loop_segments G B reached)
+
+-- the reply is that to the nodes in which a walk of the trace ends
 pub record IsAnswer (G : Ground) (ask : TypedAsk) (reply : Reply) : Type 0 where
   pub reached : List Node
   pub reach : IsReachOf G ask reached
-  pub is : IsReply G ask reached (dirt G reached) reply
+  pub is : reply ≡ loops_reply G ask reached

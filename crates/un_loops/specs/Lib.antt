@@ -4,9 +4,9 @@ pub mod Graph
 pub mod Growth
 pub mod Heads
 pub mod Incidence
+pub mod LoopList
 pub mod Loops
 pub mod Marked
 pub mod Named
 pub mod Network
-pub mod Pipes
 pub mod Renumbering

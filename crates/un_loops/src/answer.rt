@@ -5,29 +5,15 @@ ghost use Rattle.un_defs.specs.declared.port.Node.{Node};
 ghost use Rattle.un_defs.specs.Reach.{dirt};
 ghost use Rattle.un_defs.specs.Linked.{AreLinked};
 ghost use Rattle.un_walk.specs.Ticks.{IsLookedUpOnce};
-ghost use Rattle.un_loops.specs.Answer.{IsReachOf, IsForLoops, AreLinkedOnCleanGround, IsReply, IsAnswer, refused_by};
+ghost use Rattle.un_loops.specs.Answer.{IsReachOf, IsForLoops, AreLinkedOnCleanGround, loops_given_dirt, IsAnswer};
 
 use crate::nodes::open_nodes;
 use crate::segments::loop_segments;
 use std::alloc::{AllocError, Global};
-use un_ask::{Refusal, Reply, Segments, TypedAsk};
-use un_defs::{Dirt, Ground, Mode, Node};
+use un_ask::{Reply, Segments, TypedAsk};
+use un_defs::{Ground, Mode, Node};
 use un_steps::Steps;
 use un_walk::reach;
-
-fn refused_by(dirt: Dirt) -> Reply
-    ensures { result ≡ refused_by dirt }
-{
-    Reply::Refused {
-        refusal: Refusal::DirtyGround {
-            area: dirt.area,
-            feature: dirt.port.feature,
-            port: dirt.port.number,
-        },
-        edit: None,
-        version: 0,
-    }
-}
 
 /// The loop segments among the nodes that the trace reached, where no dirt was met.
 fn loops_among<G: Ground, L>(
@@ -40,7 +26,7 @@ fn loops_among<G: Ground, L>(
     requires reach { IsReachOf (G.stars_and_areas over.now) ask.now reached.now }
     requires clean { dirt (G.stars_and_areas over.now) reached.now ≡ None }
     requires linked { AreLinked (G.stars_and_areas over.now) reached.now }
-    ensures reply { IfOk result (IsReply (G.stars_and_areas over.now) ask.now reached.now None) }
+    ensures reply { IfOk result (λ reply. reply ≡ loops_given_dirt None (G.stars_and_areas over.now) ask.now reached.now) }
     ensures ticks { OnOk result (steps.new ≤ steps.old + length reached.now) }
     ensures never_falls { steps.old ≤ steps.new }
 {
@@ -82,7 +68,7 @@ pub fn loops<G: Ground, L>(
         steps,
     )?;
     match reached.dirt {
-        Some(dirt) => Ok(refused_by(dirt)),
+        Some(dirt) => Ok(Reply::on_dirty_ground(dirt)),
         None => loops_among(alloc, over, ask, reached.nodes.as_slice(), steps),
     }
 }

@@ -59,12 +59,10 @@ mod forest;
 mod growth;
 mod heads;
 mod incidence;
+pub mod laws;
 mod link;
 mod network;
 mod nodes;
 mod segments;
 
 pub use answer::loops;
-
-#[cfg(test)]
-mod tests;

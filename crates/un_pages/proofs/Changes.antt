@@ -12,13 +12,13 @@ use Rattle.un_pages.specs.declared.level.Put.{Put}
 use Rattle.un_pages.specs.declared.level.Put.TheVariants.{Added, Replaced, Refused}
 use Rattle.un_pages.specs.declared.level.Taken.{Taken}
 use Rattle.un_pages.specs.declared.level.Taken.TheVariants.{Removed, Absent, Kept}
-use Rattle.un_pages.specs.Pairs.{IsOrdered, IsFound, IsGap, IsPage, IsBranch, IsGrown, IsPlace, IsSeated, IsChanged, HasFirstKeys, IsCounted, flat, first_key, shown, entry_shown}
+use Rattle.un_pages.specs.Pairs.{IsOrdered, IsFound, IsGap, IsPage, IsBranch, IsGrown, IsPlace, IsSeated, IsChanged, HasFirstKeys, IsCounted, flat, first_key, pairs_of, pair_of}
 use Rattle.un_pages.specs.Changes.{IsPut, IsTaken, IsKept, IsChangedAt}
 use Rattle.un_pages.proofs.Ordered.{insert_ordered, remove_ordered}
 use Rattle.un_pages.proofs.Rows.{around, looked_up}
 use Rattle.un_pages.proofs.Splices.{with_flat, with_grown, put_leads, rest_flat, same_flat, put_length}
-use Rattle.un_pages.proofs.Searched.{shown_at, length_shown}
-use Rattle.un_pages.proofs.Shown.{shown_set}
+use Rattle.un_pages.proofs.Searched.{pairs_of_at, length_pairs_of}
+use Rattle.un_pages.proofs.PairsOf.{pairs_of_set}
 use Rattle.un_pages.proofs.Nodes.{put_found, put_gap, cut_found, rest_page, counted_insert, counted_remove, remove_none, look_found, look_gap, some_insert, length_insert, count_insert, got}
 
 -- ---- a list of pairs
@@ -158,26 +158,26 @@ module _ {A E : Type 0} where
   either (Ok x) f g h k = f x h
   either (Err e) f g h k = g k
 
-module _ {K X Z : Type 0} (l : List (K × Arc X Z)) (i : ℕ) (x y : K × Arc X Z) (row : List (K × X)) (view : shown l ≡ row) (within : i < length row) (read : x ≡ get_or l i x) where
+module _ {K X Z : Type 0} (l : List (K × Arc X Z)) (i : ℕ) (x y : K × Arc X Z) (row : List (K × X)) (view : pairs_of l ≡ row) (within : i < length row) (read : x ≡ get_or l i x) where
   inside : i < length l
-  inside = omega (arith, within, ap length view, length_shown l)
+  inside = omega (arith, within, ap length view, length_pairs_of l)
 
-  pub entry_here : slice_get row i ≡ Some (entry_shown x)
-  entry_here = subst (λ q. slice_get q i ≡ Some (entry_shown x)) view (shown_at l i x inside read)
+  pub entry_here : slice_get row i ≡ Some (pair_of x)
+  entry_here = subst (λ q. slice_get q i ≡ Some (pair_of x)) view (pairs_of_at l i x inside read)
 
-  pub set_is : shown (set l i y) ≡ take i row ++ ((entry_shown y ∷ []) ++ drop (i + 1) row)
-  set_is = subst (λ q. shown (set l i y) ≡ take i q ++ ((entry_shown y ∷ []) ++ drop (i + 1) q)) view (shown_set l i y inside)
+  pub set_is : pairs_of (set l i y) ≡ take i row ++ ((pair_of y ∷ []) ++ drop (i + 1) row)
+  set_is = subst (λ q. pairs_of (set l i y) ≡ take i q ++ ((pair_of y ∷ []) ++ drop (i + 1) q)) view (pairs_of_set l i y inside)
 
-  pub value_set : y.0 ≡ x.0 → IfSome (slice_get row i) (λ p. shown (set l i y) ≡ take i row ++ (((p.0, y.1.value) ∷ []) ++ drop (i + 1) row))
+  pub value_set : y.0 ≡ x.0 → IfSome (slice_get row i) (λ p. pairs_of (set l i y) ≡ take i row ++ (((p.0, y.1.value) ∷ []) ++ drop (i + 1) row))
   value_set e = rw entry_here (set_is ∙ ap (λ k. take i row ++ (((k, y.1.value) ∷ []) ++ drop (i + 1) row)) e)
 
-  pub entry_kept : entry_shown y ≡ entry_shown x → shown (set l i y) ≡ row
+  pub entry_kept : pair_of y ≡ pair_of x → pairs_of (set l i y) ≡ row
   entry_kept e =
       let next : i + 1 ≡ suc i = omega arith in
-      set_is ∙ rw (next, e) (sym (around row i (entry_shown x) entry_here))
+      set_is ∙ rw (next, e) (sym (around row i (pair_of x) entry_here))
 
-  pub entry_changed : {V : Type 0} (pairs : X → List (K × V)) (R : K × X → K × X → Type 0) → first_key (pairs y.1.value) ≡ Some y.0 → R (entry_shown x) (entry_shown y) → IsChangedAt pairs row (shown (set l i y)) i R
-  entry_changed pairs R leads change = record { was = entry_shown x; now = entry_shown y; here = entry_here; set = set_is; leads = leads; change = change }
+  pub entry_changed : {V : Type 0} (pairs : X → List (K × V)) (R : K × X → K × X → Type 0) → first_key (pairs y.1.value) ≡ Some y.0 → R (pair_of x) (pair_of y) → IsChangedAt pairs row (pairs_of (set l i y)) i R
+  entry_changed pairs R leads change = record { was = pair_of x; now = pair_of y; here = entry_here; set = set_is; leads = leads; change = change }
 
 pub lead_if : {K T V : Type 0} (pairs : T → List (K × V)) (row : List (K × T)) (i : ℕ) → HasFirstKeys pairs row → IfSome (slice_get row i) (λ p. first_key (pairs p.1) ≡ Some p.0)
 lead_if pairs [] i leads = tt

@@ -3,7 +3,7 @@ pub mod Ordered
 pub mod Reached
 pub mod Rows
 pub mod Searched
-pub mod Shown
+pub mod PairsOf
 pub mod Splices
 pub mod Nodes
 pub mod Steps

@@ -10,18 +10,18 @@ use Rattle.std.specs.List.Sorted.{IsStrictlySortedBy, IsSortedBy, IsNonDecreasin
 use Rattle.std.proofs.lemmas.List.Sorted.{searchable_from_sorted}
 use Rattle.std.proofs.lemmas.List.{length-map}
 use native.Mathlib.Numerals.{unary_clauses}
-use Rattle.un_pages.specs.Pairs.{shown, IsOrdered, IsAbove, IsBelow, IsFound, IsGap, IsPlace}
+use Rattle.un_pages.specs.Pairs.{pairs_of, IsOrdered, IsAbove, IsBelow, IsFound, IsGap, IsPlace}
 use Rattle.un_pages.proofs.Ordered.{below_pair, below_higher, above_first, ordered-right}
 use Rattle.un_pages.proofs.Rows.{around}
 
 -- an entry, as the row shows it
-pub shown_at : {K X Z : Type 0} (l : List (K × Arc X Z)) (i : ℕ) (x : K × Arc X Z) → i < length l → x ≡ get_or l i x → slice_get (shown l) i ≡ Some (x.0, x.1.value)
-shown_at [] i x h e = absurd (omega arith)
-shown_at (y ∷ l) zero x h e = ap (λ z. Some (z.0, z.1.value)) (sym e)
-shown_at (y ∷ l) (suc i) x h e = shown_at l i x (omega arith) e
+pub pairs_of_at : {K X Z : Type 0} (l : List (K × Arc X Z)) (i : ℕ) (x : K × Arc X Z) → i < length l → x ≡ get_or l i x → slice_get (pairs_of l) i ≡ Some (x.0, x.1.value)
+pairs_of_at [] i x h e = absurd (omega arith)
+pairs_of_at (y ∷ l) zero x h e = ap (λ z. Some (z.0, z.1.value)) (sym e)
+pairs_of_at (y ∷ l) (suc i) x h e = pairs_of_at l i x (omega arith) e
 
-pub length_shown : {K X Z : Type 0} (l : List (K × Arc X Z)) → length (shown l) ≡ length l
-length_shown l = length-map l _
+pub length_pairs_of : {K X Z : Type 0} (l : List (K × Arc X Z)) → length (pairs_of l) ≡ length l
+length_pairs_of l = length-map l _
 
 module _ {K X : Type 0} {cmp : K → K → Ordering} (o : IsTotalOrder cmp) (key : K) where
   above_equal : (a : K) (xs : List (K × X)) → cmp key a ≡ Equal → IsAbove cmp a xs → IsAbove cmp key xs
@@ -40,19 +40,19 @@ module _ {K X : Type 0} {cmp : K → K → Ordering} (o : IsTotalOrder cmp) (key
       }
 
 module _ {K X Z : Type 0} {cmp : K → K → Ordering} (o : IsTotalOrder cmp) (key : K) where
-  below_within : (l : List (K × Arc X Z)) (i : ℕ) → AllWithin (λ p. cmp p.0 key ≡ Less) l 0 i → i ≤ length l → IsBelow cmp (take i (shown l)) key
+  below_within : (l : List (K × Arc X Z)) (i : ℕ) → AllWithin (λ p. cmp p.0 key ≡ Less) l 0 i → i ≤ length l → IsBelow cmp (take i (pairs_of l)) key
   below_within [] zero h b = tt
   below_within [] (suc i) h b = tt
   below_within (x ∷ l) zero h b = tt
   below_within (x ∷ l) (suc i) h b = (h 0 x (omega arith) (omega arith), below_within l i (λ k d low high. h (suc k) d (omega arith) (omega arith)) (omega arith))
 
-  above_within : (l : List (K × Arc X Z)) (i : ℕ) → AllWithin (λ p. cmp p.0 key ≡ Greater) l i (length l) → IsAbove cmp key (drop i (shown l))
+  above_within : (l : List (K × Arc X Z)) (i : ℕ) → AllWithin (λ p. cmp p.0 key ≡ Greater) l i (length l) → IsAbove cmp key (drop i (pairs_of l))
   above_within [] zero h = tt
   above_within [] (suc i) h = tt
   above_within (x ∷ l) zero h = (o.antisymm key x.0 ∙ ap ordering_reverse (h 0 x (omega arith) (omega arith)), above_within l zero (λ k d low high. h (suc k) d (omega arith) (omega arith)))
   above_within (x ∷ l) (suc i) h = above_within l i (λ k d low high. h (suc k) d (omega arith) (omega arith))
 
-  adjacent : (l : List (K × Arc X Z)) → IsOrdered cmp (shown l) → IsSortedBy (λ a b. is_lt (cmp a.0 b.0)) l
+  adjacent : (l : List (K × Arc X Z)) → IsOrdered cmp (pairs_of l) → IsSortedBy (λ a b. is_lt (cmp a.0 b.0)) l
   unfolding IsStrictlySortedBy
   adjacent [] s k d low high = absurd (omega arith)
   adjacent (x ∷ []) s k d low high = absurd (omega arith)
@@ -61,7 +61,7 @@ module _ {K X Z : Type 0} {cmp : K → K → Ordering} (o : IsTotalOrder cmp) (k
       let h = simp unary_clauses at (adjacent (y ∷ l) s.1 k d (omega arith) (omega arith)) in
       simp unary_clauses h
 
-  rising : (l : List (K × Arc X Z)) → IsOrdered cmp (shown l) → IsNonDecreasingBy (λ p. ordering_index (cmp p.0 key)) l
+  rising : (l : List (K × Arc X Z)) → IsOrdered cmp (pairs_of l) → IsNonDecreasingBy (λ p. ordering_index (cmp p.0 key)) l
   rising l s = searchable_from_sorted o (λ p. p.0) l key (adjacent l s)
 
   get_or_any : (l : List (K × Arc X Z)) (i : ℕ) → i < length l → (x : K × Arc X Z) × (x ≡ get_or l i x)
@@ -70,16 +70,16 @@ module _ {K X Z : Type 0} {cmp : K → K → Ordering} (o : IsTotalOrder cmp) (k
   get_or_any (y ∷ l) (suc i) h = get_or_any l i (omega arith)
 
   -- a binary search ends at the key, or at the gap for it
-  pub searched : (l : List (K × Arc X Z)) → IsOrdered cmp (shown l) → (r : Result ℕ ℕ) → IsSearchInRange r (length l) → IsBinarySearchResult (λ p. cmp p.0 key) l r → IfOk r (IsFound cmp (shown l) key) × IfErr r (IsGap cmp (shown l) key)
+  pub searched : (l : List (K × Arc X Z)) → IsOrdered cmp (pairs_of l) → (r : Result ℕ ℕ) → IsSearchInRange r (length l) → IsBinarySearchResult (λ p. cmp p.0 key) l r → IfOk r (IsFound cmp (pairs_of l) key) × IfErr r (IsGap cmp (pairs_of l) key)
   searched l s (Ok i) range result =
       let x = get_or_any l i range in
       let e : cmp x.0.0 key ≡ Equal = subst (λ p. cmp p.0 key ≡ Equal) (sym x.1) (result x.0) in
-      (found_here o key (shown l) i (x.0.0, x.0.1.value) s (shown_at l i x.0 range x.1) (o.antisymm key x.0.0 ∙ ap ordering_reverse e) (omega (arith, length_shown l)), tt)
+      (found_here o key (pairs_of l) i (x.0.0, x.0.1.value) s (pairs_of_at l i x.0 range x.1) (o.antisymm key x.0.0 ∙ ap ordering_reverse e) (omega (arith, length_pairs_of l)), tt)
   searched l s (Err i) range result =
       let p = result (rising l s) in (
         tt,
         record {
-          within = omega (arith, length_shown l);
+          within = omega (arith, length_pairs_of l);
           before = below_within l i (λ k d low high. p.0 k d low high) range;
           after = above_within l i (λ k d low high. p.1 k d low high);
         },

@@ -15,12 +15,12 @@ use denote.Ref.{Bor}
 use Rattle.std.specs.declared.sync.Arc.{Arc}
 
 -- the pairs of a row, each value as what its `Arc` holds
-abbrev pub shown : {K X Z : Type 0} → List (K × Arc X Z) → List (K × X)
-shown = map (λ p. (p.0, p.1.value))
+abbrev pub pairs_of : {K X Z : Type 0} → List (K × Arc X Z) → List (K × X)
+pairs_of = map (λ p. (p.0, p.1.value))
 
 -- an entry, its value as what its `Arc` holds
-abbrev pub entry_shown : {K X Z : Type 0} → K × Arc X Z → K × X
-entry_shown p = (p.0, p.1.value)
+abbrev pub pair_of : {K X Z : Type 0} → K × Arc X Z → K × X
+pair_of p = (p.0, p.1.value)
 
 -- the pairs of all parts, one part after another
 abbrev pub flat : {K T V : Type 0} → (T → List (K × V)) → List (K × T) → List (K × V)

@@ -35,8 +35,6 @@ mod parts;
 mod range;
 mod root;
 mod row;
-#[cfg(test)]
-mod tests;
 
 pub use paged::Paged;
 pub use range::Range;

@@ -2,7 +2,7 @@
 ghost use Rattle.std.specs.Prelude.{◌≡◌, ◌<◌, ◌≤◌, ◌+◌, ◌∷◌, ◌++◌, [], length, slice_get, IfOk, IfErr, OnOk, OnErr, IfSome, Some, take, drop};
 ghost use Rattle.std.specs.Arc.{arc_value};
 ghost use Rattle.std.specs.Map.Iter.{TakesFirst};
-ghost use Rattle.un_pages.specs.Pairs.{past, from_on, shown, entry_shown, pair_held, first_key, IsOrdered, IsFound, IsGap, IsPlace, IsStart};
+ghost use Rattle.un_pages.specs.Pairs.{past, from_on, pairs_of, pair_of, pair_held, first_key, IsOrdered, IsFound, IsGap, IsPlace, IsStart};
 ghost use Rattle.un_pages.specs.Changes.{IsPut, IsTaken, IsChangedAt};
 
 use crate::level::{Level, Put, Taken};
@@ -18,11 +18,11 @@ pub(crate) struct Row<K: Ord + Copy, X> {
 
 impl<K: Ord + Copy, X> Model for Row<K, X> {
     ghost use Rattle.std.specs.Prelude.{List};
-    ghost use Rattle.un_pages.specs.Pairs.{shown};
+    ghost use Rattle.un_pages.specs.Pairs.{pairs_of};
 
     ghost Value = { List (K × X) };
 
-    ghost view = { λ r. shown r.items.items };
+    ghost view = { λ r. pairs_of r.items.items };
 }
 
 // The entries of a row from a place on.
@@ -33,11 +33,11 @@ pub(crate) struct Tail<'a, K: Ord + Copy, X> {
 
 impl<'a, K: Ord + Copy, X> Model for Tail<'a, K, X> {
     ghost use Rattle.std.specs.Prelude.{List};
-    ghost use Rattle.un_pages.specs.Pairs.{shown};
+    ghost use Rattle.un_pages.specs.Pairs.{pairs_of};
 
     ghost Value = { List (K × X) };
 
-    ghost view = { λ t. shown t.items.now };
+    ghost view = { λ t. pairs_of t.items.now };
 }
 
 impl<'a, K: Ord + Copy, X> Tail<'a, K, X> {
@@ -156,7 +156,7 @@ impl<K: Ord + Copy, X> Row<K, X> {
     }
 
     /// The entries from a place on.
-    #[tactic(auto, using(crate::proofs::Shown::shown_drop))]
+    #[tactic(auto, using(crate::proofs::PairsOf::pairs_of_drop))]
     pub(crate) fn tail(&self, from: usize) -> Tail<'_, K, X>
         requires { from ≤ length self.now }
         ensures { result ≡ drop from self.now }
@@ -167,7 +167,7 @@ impl<K: Ord + Copy, X> Row<K, X> {
     }
 
     // Puts another value at a place.
-    #[tactic(auto, using(crate::proofs::Shown::shown_set))]
+    #[tactic(auto, using(crate::proofs::PairsOf::pairs_of_set))]
     pub(crate) fn set_value(&mut self, at: usize, value: Arc<X>)
     where
         X: Drop,
@@ -178,7 +178,7 @@ impl<K: Ord + Copy, X> Row<K, X> {
     }
 
     /// Inserts an entry at a place, or leaves the row as it was.
-    #[tactic(auto, using(crate::proofs::Shown::shown_insert))]
+    #[tactic(auto, using(crate::proofs::PairsOf::pairs_of_insert))]
     pub(crate) fn insert(&mut self, at: usize, key: K, value: Arc<X>) -> Result<(), AllocError>
     where
         X: Drop,
@@ -191,7 +191,7 @@ impl<K: Ord + Copy, X> Row<K, X> {
     }
 
     /// Removes the entry at a place.
-    #[tactic(auto, using(crate::proofs::Shown::shown_remove))]
+    #[tactic(auto, using(crate::proofs::PairsOf::pairs_of_remove))]
     pub(crate) fn remove(&mut self, at: usize)
     where
         X: Drop,
@@ -202,7 +202,7 @@ impl<K: Ord + Copy, X> Row<K, X> {
     }
 
     // Puts the value at the key in the part at a place.
-    #[tactic(auto, using(crate::proofs::Shown::shown_set))]
+    #[tactic(auto, using(crate::proofs::PairsOf::pairs_of_set))]
     pub(crate) fn put_at<V>(
         &mut self,
         at: usize,
@@ -221,7 +221,7 @@ impl<K: Ord + Copy, X> Row<K, X> {
     }
 
     // Takes the key out of the part at a place.
-    #[tactic(auto, using(crate::proofs::Shown::shown_set))]
+    #[tactic(auto, using(crate::proofs::PairsOf::pairs_of_set))]
     pub(crate) fn take_at<V>(
         &mut self,
         at: usize,
@@ -260,7 +260,7 @@ impl<K: Ord + Copy, X> Row<K, X> {
     }
 
     // Adds the first `count` entries of the other row.
-    #[tactic(auto, using(crate::proofs::Shown::shown_take))]
+    #[tactic(auto, using(crate::proofs::PairsOf::pairs_of_take))]
     fn copy_front(&mut self, other: &Row<K, X>, count: usize) -> Result<(), AllocError>
     where
         X: Drop,
@@ -271,7 +271,7 @@ impl<K: Ord + Copy, X> Row<K, X> {
     }
 
     // Adds the entries of the other row from `from` on.
-    #[tactic(auto, using(crate::proofs::Shown::shown_drop))]
+    #[tactic(auto, using(crate::proofs::PairsOf::pairs_of_drop))]
     fn copy_back(&mut self, other: &Row<K, X>, from: usize) -> Result<(), AllocError>
     where
         X: Drop,
@@ -329,12 +329,12 @@ impl<K: Ord + Copy, X> Row<K, X> {
     }
 
     // The first `at` entries, and the others.
-    #[tactic(auto, using(crate::proofs::Shown::shown_take, crate::proofs::Shown::shown_drop, crate::proofs::Shown::shown_append))]
+    #[tactic(auto, using(crate::proofs::PairsOf::pairs_of_take, crate::proofs::PairsOf::pairs_of_drop, crate::proofs::PairsOf::pairs_of_append))]
     pub(crate) fn split(self, at: usize) -> Result<(Row<K, X>, Row<K, X>), AllocError>
     where
         X: Drop,
         requires { at ≤ length self }
-        ensures front { IfOk result (λ p. p.0 ≡ take at self) }
+        ensures prefix { IfOk result (λ p. p.0 ≡ take at self) }
         ensures back { IfOk result (λ p. p.1 ≡ drop at self) }
     {
         let Row { mut items } = self;
@@ -347,7 +347,7 @@ fn copy_to<K: Ord + Copy, X: Drop>(
     items: &mut Vec<(K, Arc<X>)>,
     from: &[(K, Arc<X>)],
 ) -> Result<(), AllocError>
-    ensures { IfOk result (λ _. shown items.new.items ≡ shown items.old.items ++ shown from.now) }
+    ensures { IfOk result (λ _. pairs_of items.new.items ≡ pairs_of items.old.items ++ pairs_of from.now) }
 {
     items.try_reserve_exact(from.len())?;
     for (key, value) in from {
@@ -380,9 +380,9 @@ fn put_beside<K: Ord + Copy, V, T: Level<K, V>>(
     value: &Arc<V>,
 ) -> Result<Put, AllocError>
     requires { first_key (T.pairs (arc_value item.old.1)) ≡ Some item.old.0 }
-    ensures put { IfOk result (IsPut K.cmp (λ p. T.pairs p.1) (entry_shown item.old) (entry_shown item.new) key (arc_value value.now)) }
+    ensures put { IfOk result (IsPut K.cmp (λ p. T.pairs p.1) (pair_of item.old) (pair_of item.new) key (arc_value value.now)) }
     ensures leads { first_key (T.pairs (arc_value item.new.1)) ≡ Some item.new.0 }
-    ensures err { OnErr result (entry_shown item.new ≡ entry_shown item.old) }
+    ensures err { OnErr result (pair_of item.new ≡ pair_of item.old) }
 {
     let put = put_into(&mut item.1, alloc, key, value)?;
     match put {
@@ -418,9 +418,9 @@ fn take_beside<K: Ord + Copy, V, T: Level<K, V>>(
     key: &K,
 ) -> Result<Taken, AllocError>
     requires { first_key (T.pairs (arc_value item.old.1)) ≡ Some item.old.0 }
-    ensures taken { IfOk result (IsTaken K.cmp (λ p. T.pairs p.1) (entry_shown item.old) (entry_shown item.new) key.now) }
+    ensures taken { IfOk result (IsTaken K.cmp (λ p. T.pairs p.1) (pair_of item.old) (pair_of item.new) key.now) }
     ensures leads { first_key (T.pairs (arc_value item.new.1)) ≡ Some item.new.0 }
-    ensures err { OnErr result (entry_shown item.new ≡ entry_shown item.old) }
+    ensures err { OnErr result (pair_of item.new ≡ pair_of item.old) }
 {
     let taken = take_out(&mut item.1, alloc, key)?;
     if let Taken::Removed = taken

@@ -24,8 +24,6 @@
 
 pub mod point_map;
 mod strip;
-#[cfg(test)]
-mod tests;
 pub mod walk;
 
 pub use point_map::PointMap;

@@ -71,7 +71,7 @@ where
     requires log { first.1 ≡ [] }
     ensures { IfOk result (λ w. (w.desk.shown.value ≡ first) × ((view w.desk.place).seen ≡ first.1)) }
 {
-    let (Ok(second), Ok(third)) = (first.again(), first.again()) else {
+    let (Ok(second), Ok(third)) = (first.copy(), first.copy()) else {
         return Err(AllocError);
     };
     let Ok(writer) = BoardPublisher::<M, J>::new(alloc, first, second, readers) else {
@@ -108,7 +108,7 @@ where
         ensures sessions { IfOk result (λ r. AreFresh sessions r.1.items) }
     {
         let (length, prefix) = new_log.named::<J>();
-        let first = Published::new(state, prefix.again());
+        let first = Published::new(state, prefix.copy());
         let writer = writer_of(rt, alloc, first, sessions as usize + 1)?;
         match sessions_at(alloc, writer.factory(), &prefix, sessions) {
             Ok(all) => {
@@ -166,11 +166,11 @@ where
         let Ok(state) = self.staged() else {
             return Err(AllocError);
         };
-        let mut prefix = self.prefix.again();
+        let mut prefix = self.prefix.copy();
         if !prefix.add(&self.length, entry) {
             return Err(AllocError);
         }
-        let next = Published::new(state, prefix.again());
+        let next = Published::new(state, prefix.copy());
         publish_whole_in::<Published<M, J>, Known<M>, BoardRule, Looks, R>(
             &mut self.writer,
             rt,

@@ -106,7 +106,7 @@ impl<E, J: LogName> Prefix<E, J> {
     }
 
     /// The same beginning once more.
-    pub fn again(&self) -> Prefix<E, J>
+    pub fn copy(&self) -> Prefix<E, J>
         ensures { result ≡ self.now }
     {
         Prefix {

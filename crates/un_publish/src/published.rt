@@ -83,16 +83,16 @@ impl<M: Machine, J: BoardName<M>> Published<M, J> {
         ensures prefix { result ≡ self.now.1 }
         ensures reaches { Reaches M.step J.opening self.now.1 self.now.0 }
     {
-        self.prefix.again()
+        self.prefix.copy()
     }
 
     /// A copy, which shares the state and the log.
-    pub(crate) fn again(&self) -> Result<Published<M, J>, AllocError>
+    pub(crate) fn copy(&self) -> Result<Published<M, J>, AllocError>
         ensures { IfOk result (λ s. s ≡ self.now) }
     {
         Ok(Published {
             state: Arc::try_clone(&self.state)?,
-            prefix: self.prefix.again(),
+            prefix: self.prefix.copy(),
         })
     }
 }
@@ -111,7 +111,7 @@ impl<M: Machine, J: BoardName<M>> Absorb<Published<M, J>> for Published<M, J> {
         _other: &Published<M, J>,
     ) -> Result<(), AllocError> {
         self.state = Arc::try_clone(&operation.state)?;
-        self.prefix = operation.prefix.again();
+        self.prefix = operation.prefix.copy();
         Ok(())
     }
 }

@@ -133,7 +133,7 @@ pub(crate) fn sessions_at<M: Machine, J: BoardName<M>>(
         if all.reserve(1).is_err() {
             return Err(AllocError);
         }
-        all.push_reserved(Session::fresh(reader, prefix.again(), number));
+        all.push_reserved(Session::fresh(reader, prefix.copy(), number));
     }
     Ok(all)
 }
@@ -282,7 +282,7 @@ impl<M: Machine, J: BoardName<M>> Session<M, J> {
         // For the proof alone.
         let _most = log.len();
         self.reader = informed;
-        self.prefix = log.again();
+        self.prefix = log.copy();
         self.own += 1;
     }
 }

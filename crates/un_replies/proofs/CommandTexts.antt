@@ -9,7 +9,7 @@ use Rattle.un_ask.specs.declared.stored.StoredSubnet.{StoredSubnet}
 use Rattle.un_ask.specs.declared.reply.Reply.TheVariants as reply
 use Rattle.un_replies.specs.Values.{count, counts}
 use Rattle.un_replies.specs.Pieces.{following, opening}
-use Rattle.un_replies.specs.Replies.{shown, stored_members, stored_status}
+use Rattle.un_replies.specs.Replies.{reply_value, stored_members, stored_status}
 
 -- four members, one after the other
 four_steps : (start a b c d e : List ℕ) (m n o p : List ℕ × Data)
@@ -46,7 +46,7 @@ four_steps start a b c d e m n o p one two three four five =
 pub edited_steps : (areas : List ℕ) (id : ℕ) (word : EditWord) (version : ℕ) (text start a b c d e : List ℕ)
     → text ≡ edit_text word → a ≡ start ++ opening (codes "areas", counts areas) → b ≡ a ++ following ((codes "id", count id) ∷ [])
     → c ≡ b ++ following ((codes "ok", string text) ∷ []) → d ≡ c ++ following ((codes "version", count version) ∷ []) → e ≡ d ++ codes "}"
-    → e ≡ start ++ compact_text (shown (reply.Edited areas id word version))
+    → e ≡ start ++ compact_text (reply_value (reply.Edited areas id word version))
 edited_steps areas id word version text start a b c d e same one two three four five =
     four_steps start a b c d e (codes "areas", counts areas) (codes "id", count id) (codes "ok", string (edit_text word)) (codes "version", count version)
     one two (three ∙ ap (λ t. b ++ following ((codes "ok", string t) ∷ [])) same) four five
@@ -54,21 +54,21 @@ edited_steps areas id word version text start a b c d e same one two three four 
 pub batch_steps : (areas ids : List ℕ) (version : ℕ) (start a b c d e : List ℕ)
     → a ≡ start ++ opening (codes "areas", counts areas) → b ≡ a ++ following ((codes "ids", counts ids) ∷ [])
     → c ≡ b ++ following ((codes "ok", string (codes "batch")) ∷ []) → d ≡ c ++ following ((codes "version", count version) ∷ []) → e ≡ d ++ codes "}"
-    → e ≡ start ++ compact_text (shown (reply.Batch areas ids version))
+    → e ≡ start ++ compact_text (reply_value (reply.Batch areas ids version))
 batch_steps areas ids version start a b c d e =
     four_steps start a b c d e (codes "areas", counts areas) (codes "ids", counts ids) (codes "ok", string (codes "batch")) (codes "version", count version)
 
 pub ruled_steps : (areas : List ℕ) (rules version : ℕ) (start a b c d e : List ℕ)
     → a ≡ start ++ opening (codes "areas", counts areas) → b ≡ a ++ following ((codes "ok", string (codes "rule")) ∷ [])
     → c ≡ b ++ following ((codes "rules", count rules) ∷ []) → d ≡ c ++ following ((codes "version", count version) ∷ []) → e ≡ d ++ codes "}"
-    → e ≡ start ++ compact_text (shown (reply.Ruled areas rules version))
+    → e ≡ start ++ compact_text (reply_value (reply.Ruled areas rules version))
 ruled_steps areas rules version start a b c d e =
     four_steps start a b c d e (codes "areas", counts areas) (codes "ok", string (codes "rule")) (codes "rules", count rules) (codes "version", count version)
 
 pub validated_steps : (cleared errors version : ℕ) (start a b c d e : List ℕ)
     → a ≡ start ++ opening (codes "cleared", count cleared) → b ≡ a ++ following ((codes "errors", count errors) ∷ [])
     → c ≡ b ++ following ((codes "ok", string (codes "validate")) ∷ []) → d ≡ c ++ following ((codes "version", count version) ∷ []) → e ≡ d ++ codes "}"
-    → e ≡ start ++ compact_text (shown (reply.Validated cleared errors version))
+    → e ≡ start ++ compact_text (reply_value (reply.Validated cleared errors version))
 validated_steps cleared errors version start a b c d e =
     four_steps start a b c d e (codes "cleared", count cleared) (codes "errors", count errors) (codes "ok", string (codes "validate")) (codes "version", count version)
 
@@ -76,7 +76,7 @@ pub updated_steps : (row : Option StoredSubnet) (version members : ℕ) (text st
     → members ≡ stored_members row → text ≡ stored_status row
     → a ≡ start ++ opening (codes "members", count members) → b ≡ a ++ following ((codes "ok", string (codes "update")) ∷ [])
     → c ≡ b ++ following ((codes "status", string text) ∷ []) → d ≡ c ++ following ((codes "version", count version) ∷ []) → e ≡ d ++ codes "}"
-    → e ≡ start ++ compact_text (shown (reply.Updated row version))
+    → e ≡ start ++ compact_text (reply_value (reply.Updated row version))
 updated_steps row version members text start a b c d e counted same one two three four five =
     four_steps start a b c d e (codes "members", count (stored_members row)) (codes "ok", string (codes "update")) (codes "status", string (stored_status row)) (codes "version", count version)
     (one ∙ ap (λ n. start ++ opening (codes "members", count n)) counted) two (three ∙ ap (λ t. b ++ following ((codes "status", string t) ∷ [])) same) four five

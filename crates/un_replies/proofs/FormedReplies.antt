@@ -16,9 +16,9 @@ use Rattle.un_ask.specs.declared.reply.Reply.TheVariants as reply
 use Rattle.serde_json.specs.Data.{string}
 use Rattle.un_replies.specs.Values.{count, counts, whole, list, object_of}
 use Rattle.std.proofs.Common.{map}
-use Rattle.un_replies.specs.Refusals.{Told, told_of, edit_member, version_member, tells_version, told_value, refusal_value}
+use Rattle.un_replies.specs.Refusals.{RefusalFields, fields_of, edit_member, version_member, has_version, fields_value, refusal_value}
 use Rattle.un_ask.specs.Words.{edit_text, trace_text}
-use Rattle.un_replies.specs.Replies.{error_text, flow_text, stored_members, stored_status, status_text, path_text, point, port, area, placed_error, part, segment, controller, total, attribute, feature_value, result_value, shown}
+use Rattle.un_replies.specs.Replies.{error_text, flow_text, stored_members, stored_status, status_text, path_text, point, port, area, placed_error, part, segment, controller, total, attribute, feature_value, result_value, reply_value}
 use Rattle.un_replies.proofs.Formed.{IsFormedTo, HasFormed, HasFormed-append, of_count, of_whole, of_text, of_tuple, of_list, of_counts, of_object}
 
 -- ---- parts
@@ -60,48 +60,48 @@ of_edit : (edit : Option ℕ) → HasFormed 3 (edit_member edit)
 of_edit None = tt
 of_edit (Some edit) = (of_count 3 edit, tt)
 
-of_version : (told : Bool) (version : ℕ) → HasFormed 3 (version_member told version)
+of_version : (refusal_fields : Bool) (version : ℕ) → HasFormed 3 (version_member refusal_fields version)
 of_version true version = (of_count 3 version, tt)
 of_version false version = tt
 
-of_told : (t : Told) (edit : Option ℕ) (version : ℕ) → HasFormed 3 t.carried → IsFormedTo 4 (told_value t edit version)
-of_told t edit version h =
-    of_object 3 ((codes "error", count t.error) ∷ (codes "name", string t.name) ∷ t.carried ++ (edit_member edit ++ version_member (tells_version t.error) version)) (of_count 3 t.error, (of_text 3 t.name, HasFormed-append 3 t.carried _ h (HasFormed-append 3 (edit_member edit) _ (of_edit edit) (of_version (tells_version t.error) version))))
+of_fields : (t : RefusalFields) (edit : Option ℕ) (version : ℕ) → HasFormed 3 t.carried → IsFormedTo 4 (fields_value t edit version)
+of_fields t edit version h =
+    of_object 3 ((codes "error", count t.error) ∷ (codes "name", string t.name) ∷ t.carried ++ (edit_member edit ++ version_member (has_version t.error) version)) (of_count 3 t.error, (of_text 3 t.name, HasFormed-append 3 t.carried _ h (HasFormed-append 3 (edit_member edit) _ (of_edit edit) (of_version (has_version t.error) version))))
 
 pub of_refusal : (r : Refusal) (edit : Option ℕ) (version : ℕ) → IsFormedTo 4 (refusal_value r edit version)
-of_refusal refusal.NotJson edit version = of_told (told_of refusal.NotJson) edit version tt
-of_refusal (refusal.BadRequest place) edit version = of_told (told_of (refusal.BadRequest place)) edit version (of_text 3 _, tt)
-of_refusal refusal.LineTooLong edit version = of_told (told_of refusal.LineTooLong) edit version tt
-of_refusal (refusal.BadSchema place) edit version = of_told (told_of (refusal.BadSchema place)) edit version (of_text 3 _, tt)
-of_refusal (refusal.NoSuchFeature id) edit version = of_told (told_of (refusal.NoSuchFeature id)) edit version (of_count 3 _, tt)
-of_refusal (refusal.Moved at) edit version = of_told (told_of (refusal.Moved at)) edit version (of_count 3 _, tt)
-of_refusal (refusal.BadShape place) edit version = of_told (told_of (refusal.BadShape place)) edit version (of_count 3 _, tt)
-of_refusal (refusal.NoSuchKind kind) edit version = of_told (told_of (refusal.NoSuchKind kind)) edit version (of_text 3 _, tt)
-of_refusal (refusal.BadAttribute attribute) edit version = of_told (told_of (refusal.BadAttribute attribute)) edit version (of_text 3 _, tt)
-of_refusal (refusal.BadTerminal feature) edit version = of_told (told_of (refusal.BadTerminal feature)) edit version (of_count 3 _, tt)
-of_refusal refusal.BadPath edit version = of_told (told_of refusal.BadPath) edit version tt
-of_refusal (refusal.HasAssociations least) edit version = of_told (told_of (refusal.HasAssociations least)) edit version (of_count 3 _, tt)
-of_refusal refusal.HasControllers edit version = of_told (told_of refusal.HasControllers) edit version tt
-of_refusal refusal.NoSuchAssociation edit version = of_told (told_of refusal.NoSuchAssociation) edit version tt
-of_refusal refusal.WrongKind edit version = of_told (told_of refusal.WrongKind) edit version tt
-of_refusal (refusal.AlreadyContained by) edit version = of_told (told_of (refusal.AlreadyContained by)) edit version (of_count 3 _, tt)
-of_refusal refusal.ContainsItself edit version = of_told (told_of refusal.ContainsItself) edit version tt
-of_refusal refusal.NoSuchTier edit version = of_told (told_of refusal.NoSuchTier) edit version tt
-of_refusal refusal.NotController edit version = of_told (told_of refusal.NotController) edit version tt
-of_refusal refusal.ControllerExists edit version = of_told (told_of refusal.ControllerExists) edit version tt
-of_refusal refusal.NoSuchController edit version = of_told (told_of refusal.NoSuchController) edit version tt
-of_refusal refusal.NoSuchSubnetwork edit version = of_told (told_of refusal.NoSuchSubnetwork) edit version tt
-of_refusal (refusal.Conflict subnet feature port) edit version = of_told (told_of (refusal.Conflict subnet feature port)) edit version (of_text 3 _, (of_count 3 _, (of_count 3 _, tt)))
-of_refusal (refusal.Disjoint feature port) edit version = of_told (told_of (refusal.Disjoint feature port)) edit version (of_count 3 _, (of_count 3 _, tt))
-of_refusal (refusal.Full what) edit version = of_told (told_of (refusal.Full what)) edit version (of_text 3 _, tt)
-of_refusal (refusal.Ahead seen latest) edit version = of_told (told_of (refusal.Ahead seen latest)) edit version (of_count 3 _, (of_count 3 _, tt))
-of_refusal (refusal.NoStart feature port) edit version = of_told (told_of (refusal.NoStart feature port)) edit version (of_count 3 _, (of_count 3 _, tt))
-of_refusal (refusal.StartIsValve feature terminal) edit version = of_told (told_of (refusal.StartIsValve feature terminal)) edit version (of_count 3 _, (of_count 3 _, tt))
-of_refusal (refusal.BadCondition place) edit version = of_told (told_of (refusal.BadCondition place)) edit version (of_text 3 _, tt)
-of_refusal (refusal.DirtyGround area feature port) edit version = of_told (told_of (refusal.DirtyGround area feature port)) edit version (of_count 3 _, (of_count 3 _, (of_count 3 _, tt)))
-of_refusal (refusal.NotIsolable feature terminal) edit version = of_told (told_of (refusal.NotIsolable feature terminal)) edit version (of_count 3 _, (of_count 3 _, tt))
-of_refusal (refusal.BadRuleTerminal place) edit version = of_told (told_of (refusal.BadRuleTerminal place)) edit version (of_count 3 _, tt)
-of_refusal (refusal.RuleExists place) edit version = of_told (told_of (refusal.RuleExists place)) edit version (of_count 3 _, tt)
+of_refusal refusal.NotJson edit version = of_fields (fields_of refusal.NotJson) edit version tt
+of_refusal (refusal.BadRequest place) edit version = of_fields (fields_of (refusal.BadRequest place)) edit version (of_text 3 _, tt)
+of_refusal refusal.LineTooLong edit version = of_fields (fields_of refusal.LineTooLong) edit version tt
+of_refusal (refusal.BadSchema place) edit version = of_fields (fields_of (refusal.BadSchema place)) edit version (of_text 3 _, tt)
+of_refusal (refusal.NoSuchFeature id) edit version = of_fields (fields_of (refusal.NoSuchFeature id)) edit version (of_count 3 _, tt)
+of_refusal (refusal.Moved at) edit version = of_fields (fields_of (refusal.Moved at)) edit version (of_count 3 _, tt)
+of_refusal (refusal.BadShape place) edit version = of_fields (fields_of (refusal.BadShape place)) edit version (of_count 3 _, tt)
+of_refusal (refusal.NoSuchKind kind) edit version = of_fields (fields_of (refusal.NoSuchKind kind)) edit version (of_text 3 _, tt)
+of_refusal (refusal.BadAttribute attribute) edit version = of_fields (fields_of (refusal.BadAttribute attribute)) edit version (of_text 3 _, tt)
+of_refusal (refusal.BadTerminal feature) edit version = of_fields (fields_of (refusal.BadTerminal feature)) edit version (of_count 3 _, tt)
+of_refusal refusal.BadPath edit version = of_fields (fields_of refusal.BadPath) edit version tt
+of_refusal (refusal.HasAssociations least) edit version = of_fields (fields_of (refusal.HasAssociations least)) edit version (of_count 3 _, tt)
+of_refusal refusal.HasControllers edit version = of_fields (fields_of refusal.HasControllers) edit version tt
+of_refusal refusal.NoSuchAssociation edit version = of_fields (fields_of refusal.NoSuchAssociation) edit version tt
+of_refusal refusal.WrongKind edit version = of_fields (fields_of refusal.WrongKind) edit version tt
+of_refusal (refusal.AlreadyContained by) edit version = of_fields (fields_of (refusal.AlreadyContained by)) edit version (of_count 3 _, tt)
+of_refusal refusal.ContainsItself edit version = of_fields (fields_of refusal.ContainsItself) edit version tt
+of_refusal refusal.NoSuchTier edit version = of_fields (fields_of refusal.NoSuchTier) edit version tt
+of_refusal refusal.NotController edit version = of_fields (fields_of refusal.NotController) edit version tt
+of_refusal refusal.ControllerExists edit version = of_fields (fields_of refusal.ControllerExists) edit version tt
+of_refusal refusal.NoSuchController edit version = of_fields (fields_of refusal.NoSuchController) edit version tt
+of_refusal refusal.NoSuchSubnetwork edit version = of_fields (fields_of refusal.NoSuchSubnetwork) edit version tt
+of_refusal (refusal.Conflict subnet feature port) edit version = of_fields (fields_of (refusal.Conflict subnet feature port)) edit version (of_text 3 _, (of_count 3 _, (of_count 3 _, tt)))
+of_refusal (refusal.Disjoint feature port) edit version = of_fields (fields_of (refusal.Disjoint feature port)) edit version (of_count 3 _, (of_count 3 _, tt))
+of_refusal (refusal.Full what) edit version = of_fields (fields_of (refusal.Full what)) edit version (of_text 3 _, tt)
+of_refusal (refusal.Ahead seen latest) edit version = of_fields (fields_of (refusal.Ahead seen latest)) edit version (of_count 3 _, (of_count 3 _, tt))
+of_refusal (refusal.NoStart feature port) edit version = of_fields (fields_of (refusal.NoStart feature port)) edit version (of_count 3 _, (of_count 3 _, tt))
+of_refusal (refusal.StartIsValve feature terminal) edit version = of_fields (fields_of (refusal.StartIsValve feature terminal)) edit version (of_count 3 _, (of_count 3 _, tt))
+of_refusal (refusal.BadCondition place) edit version = of_fields (fields_of (refusal.BadCondition place)) edit version (of_text 3 _, tt)
+of_refusal (refusal.DirtyGround area feature port) edit version = of_fields (fields_of (refusal.DirtyGround area feature port)) edit version (of_count 3 _, (of_count 3 _, (of_count 3 _, tt)))
+of_refusal (refusal.NotIsolable feature terminal) edit version = of_fields (fields_of (refusal.NotIsolable feature terminal)) edit version (of_count 3 _, (of_count 3 _, tt))
+of_refusal (refusal.BadRuleTerminal place) edit version = of_fields (fields_of (refusal.BadRuleTerminal place)) edit version (of_count 3 _, tt)
+of_refusal (refusal.RuleExists place) edit version = of_fields (fields_of (refusal.RuleExists place)) edit version (of_count 3 _, tt)
 of_refusal refusal.Memory edit version = record { formed = (tt, (tt, tt)); shallow = omega arith }
 
 -- ---- replies
@@ -116,7 +116,7 @@ of_result r version = of_object 3
     ((codes "containers", counts r.containers) ∷ (codes "content", counts r.content) ∷ (codes "features", list part r.features) ∷ (codes "functions", list total r.functions) ∷ (codes "ok", string (trace_text r.kind)) ∷ (codes "structures", counts r.structures) ∷ (codes "version", count version) ∷ [])
     (of_counts 2 _, (of_counts 2 _, (of_list 2 part of_part r.features, (of_list 2 total of_total r.functions, (of_text 3 _, (of_counts 2 _, (of_count 3 _, tt)))))))
 
-pub of_reply : (r : Reply) → IsFormedTo 4 (shown r)
+pub of_reply : (r : Reply) → IsFormedTo 4 (reply_value r)
 of_reply (reply.Edited areas id word version) = of_object 3
     ((codes "areas", counts areas) ∷ (codes "id", count id) ∷ (codes "ok", string (edit_text word)) ∷ (codes "version", count version) ∷ [])
     (of_counts 2 _, (of_count 3 _, (of_text 3 _, (of_count 3 _, tt))))

@@ -13,7 +13,7 @@ use Rattle.serde_json.specs.Read.{number_of, of_json, of_items, of_members, read
 use Rattle.serde_json.specs.Written.{number_text, outline, items_outline, members_outline, compact_text}
 use Rattle.serde_json.proofs.Texts.{print-outline}
 use Rattle.un_replies.specs.ReadBack.{number_read, value_read, items_read, members_read, Has128Bits, Has64Bits, EachNumber, EachItemNumber, EachMemberNumber, ReadBackLaw, WideReadBackLaw}
-use Rattle.un_replies.specs.Replies.{shown}
+use Rattle.un_replies.specs.Replies.{reply_value}
 use Rattle.un_replies.proofs.Shows.{number_decimal, number_negative}
 use Rattle.un_replies.proofs.NumbersRead.{number_of-count, number_of-below}
 use Rattle.un_replies.proofs.Formed.{IsWhole, IsBefore, IsFormed, AreFormedItems, AreFormedMembers, IsFormedTo, turned}
@@ -176,7 +176,7 @@ mutual
 -- ---- the laws
 
 pub wide_read_back : WideReadBackLaw
-wide_read_back reply few = read-compact_text (shown reply) (of_reply reply) few
+wide_read_back reply few = read-compact_text (reply_value reply) (of_reply reply) few
 
 pub read_back : ReadBackLaw
-read_back reply short = wide_read_back reply (each_wide (shown reply) short) ∙ ap Some (read_same (shown reply) short)
+read_back reply short = wide_read_back reply (each_wide (reply_value reply) short) ∙ ap Some (read_same (reply_value reply) short)

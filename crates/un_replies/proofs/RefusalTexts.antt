@@ -8,17 +8,17 @@ use Rattle.serde_json.proofs.OnLiterals.{serde_json_on_literals}
 use Rattle.un_defs.specs.declared.refusal.Refusal.{Refusal}
 use Rattle.un_defs.specs.declared.refusal.Refusal.TheVariants as refusal
 use Rattle.un_replies.specs.Values.{count, in_order}
-use Rattle.un_replies.specs.Refusals.{told_of, told_value, refusal_value, tells_version, edit_member, version_member}
+use Rattle.un_replies.specs.Refusals.{fields_of, fields_value, refusal_value, has_version, edit_member, version_member}
 use Rattle.un_replies.specs.Pieces.{members_of, leading, following, early, middle, late, last}
 
 -- the members of a refusal in their order
 abbrev row : Refusal → Option ℕ → ℕ → List (List ℕ × Data)
 row r edit version =
-    early r ++ (edit_member edit ++ (codes "error", count (told_of r).error) ∷ (middle r ++ (codes "name", string (told_of r).name)
-    ∷ (late r ++ (version_member (tells_version (told_of r).error) version ++ last r))))
+    early r ++ (edit_member edit ++ (codes "error", count (fields_of r).error) ∷ (middle r ++ (codes "name", string (fields_of r).name)
+    ∷ (late r ++ (version_member (has_version (fields_of r).error) version ++ last r))))
 
 sorted : (r : Refusal) (edit : Option ℕ) (version : ℕ)
-    → in_order ((codes "error", count (told_of r).error) ∷ (codes "name", string (told_of r).name) ∷ (told_of r).carried ++ (edit_member edit ++ version_member (tells_version (told_of r).error) version))
+    → in_order ((codes "error", count (fields_of r).error) ∷ (codes "name", string (fields_of r).name) ∷ (fields_of r).carried ++ (edit_member edit ++ version_member (has_version (fields_of r).error) version))
     ≡ members_of (row r edit version)
 sorted refusal.NotJson None version = refl
 sorted refusal.NotJson (Some edit) version = refl
@@ -127,100 +127,100 @@ text_end (m ∷ ms) =
 
 -- from the version on, from the name on, and from the number on
 abbrev from_version : Refusal → ℕ → List ℕ
-from_version r version = following (version_member (tells_version (told_of r).error) version) ++ (following (last r) ++ codes "}")
+from_version r version = following (version_member (has_version (fields_of r).error) version) ++ (following (last r) ++ codes "}")
 
 abbrev from_name : Refusal → ℕ → List ℕ
-from_name r version = following ((codes "name", string (told_of r).name) ∷ []) ++ (following (late r) ++ from_version r version)
+from_name r version = following ((codes "name", string (fields_of r).name) ∷ []) ++ (following (late r) ++ from_version r version)
 
 abbrev from_error : Refusal → ℕ → List ℕ
-from_error r version = codes "\"error\":" ++ (decimal (told_of r).error ++ (following (middle r) ++ from_name r version))
+from_error r version = codes "\"error\":" ++ (decimal (fields_of r).error ++ (following (middle r) ++ from_name r version))
 
-version_text : (r : Refusal) (version : ℕ) → members_text true (members_of (version_member (tells_version (told_of r).error) version ++ last r)) ≡ from_version r version
+version_text : (r : Refusal) (version : ℕ) → members_text true (members_of (version_member (has_version (fields_of r).error) version ++ last r)) ≡ from_version r version
 version_text r version =
-    let told = version_member (tells_version (told_of r).error) version in
-    text_behind told (last r) ∙ ap (λ t. following told ++ t) (text_end (last r))
+    let refusal_fields = version_member (has_version (fields_of r).error) version in
+    text_behind refusal_fields (last r) ∙ ap (λ t. following refusal_fields ++ t) (text_end (last r))
 
-name_text : (r : Refusal) (version : ℕ) → members_text true (members_of ((codes "name", string (told_of r).name) ∷ (late r ++ (version_member (tells_version (told_of r).error) version ++ last r)))) ≡ from_name r version
+name_text : (r : Refusal) (version : ℕ) → members_text true (members_of ((codes "name", string (fields_of r).name) ∷ (late r ++ (version_member (has_version (fields_of r).error) version ++ last r)))) ≡ from_name r version
 name_text r version =
-    let told = version_member (tells_version (told_of r).error) version in
-    let name = (codes "name", string (told_of r).name) ∷ [] in
-    text_behind name (late r ++ (told ++ last r))
-    ∙ ap (λ t. following name ++ t) (text_behind (late r) (told ++ last r) ∙ ap (λ t. following (late r) ++ t) (version_text r version))
+    let refusal_fields = version_member (has_version (fields_of r).error) version in
+    let name = (codes "name", string (fields_of r).name) ∷ [] in
+    text_behind name (late r ++ (refusal_fields ++ last r))
+    ∙ ap (λ t. following name ++ t) (text_behind (late r) (refusal_fields ++ last r) ∙ ap (λ t. following (late r) ++ t) (version_text r version))
 
-error_text : (r : Refusal) (version : ℕ) → members_text false (members_of ((codes "error", count (told_of r).error) ∷ (middle r ++ (codes "name", string (told_of r).name)
-    ∷ (late r ++ (version_member (tells_version (told_of r).error) version ++ last r))))) ≡ from_error r version
+error_text : (r : Refusal) (version : ℕ) → members_text false (members_of ((codes "error", count (fields_of r).error) ∷ (middle r ++ (codes "name", string (fields_of r).name)
+    ∷ (late r ++ (version_member (has_version (fields_of r).error) version ++ last r))))) ≡ from_error r version
 unfolding serde_json_on_literals
 error_text r version =
-    let behind = late r ++ (version_member (tells_version (told_of r).error) version ++ last r) in
-    ap (λ t. codes "\"error\":" ++ (decimal (told_of r).error ++ t))
-    (text_behind (middle r) ((codes "name", string (told_of r).name) ∷ behind) ∙ ap (λ t. following (middle r) ++ t) (name_text r version))
+    let behind = late r ++ (version_member (has_version (fields_of r).error) version ++ last r) in
+    ap (λ t. codes "\"error\":" ++ (decimal (fields_of r).error ++ t))
+    (text_behind (middle r) ((codes "name", string (fields_of r).name) ∷ behind) ∙ ap (λ t. following (middle r) ++ t) (name_text r version))
 
 -- the text of a refusal, part by part
-pub told_text : (r : Refusal) (edit : Option ℕ) (version : ℕ) → compact_text (told_value (told_of r) edit version) ≡
+pub fields_text : (r : Refusal) (edit : Option ℕ) (version : ℕ) → compact_text (fields_value (fields_of r) edit version) ≡
     codes "{" ++ (leading (early r) ++ (leading (edit_member edit) ++ from_error r version))
-told_text r edit version =
-    let behind = middle r ++ (codes "name", string (told_of r).name) ∷ (late r ++ (version_member (tells_version (told_of r).error) version ++ last r)) in
-    let rest = (codes "error", count (told_of r).error) ∷ behind in
+fields_text r edit version =
+    let behind = middle r ++ (codes "name", string (fields_of r).name) ∷ (late r ++ (version_member (has_version (fields_of r).error) version ++ last r)) in
+    let rest = (codes "error", count (fields_of r).error) ∷ behind in
     ap (λ ms. 123 ∷ members_text false ms) (sorted r edit version)
     ∙ ap (λ t. 123 ∷ t) (text_before (early r) (edit_member edit ++ rest) (some_behind (edit_member edit) rest tt)
     ∙ ap (λ t. leading (early r) ++ t) (text_before (edit_member edit) rest tt ∙ ap (λ t. leading (edit_member edit) ++ t) (error_text r version)))
 
 -- any refusal but want of memory is told so
-pub told_other : (r : Refusal) (edit : Option ℕ) (version : ℕ) → r ≢ refusal.Memory → refusal_value r edit version ≡ told_value (told_of r) edit version
-told_other refusal.NotJson edit version other = refl
-told_other (refusal.BadRequest place) edit version other = refl
-told_other refusal.LineTooLong edit version other = refl
-told_other (refusal.BadSchema place) edit version other = refl
-told_other (refusal.NoSuchFeature id) edit version other = refl
-told_other (refusal.Moved at) edit version other = refl
-told_other (refusal.BadShape place) edit version other = refl
-told_other (refusal.NoSuchKind kind) edit version other = refl
-told_other (refusal.BadAttribute attribute) edit version other = refl
-told_other (refusal.BadTerminal feature) edit version other = refl
-told_other refusal.BadPath edit version other = refl
-told_other (refusal.HasAssociations least) edit version other = refl
-told_other refusal.HasControllers edit version other = refl
-told_other refusal.NoSuchAssociation edit version other = refl
-told_other refusal.WrongKind edit version other = refl
-told_other (refusal.AlreadyContained by) edit version other = refl
-told_other refusal.ContainsItself edit version other = refl
-told_other refusal.NoSuchTier edit version other = refl
-told_other refusal.NotController edit version other = refl
-told_other refusal.ControllerExists edit version other = refl
-told_other refusal.NoSuchController edit version other = refl
-told_other refusal.NoSuchSubnetwork edit version other = refl
-told_other (refusal.Conflict subnet feature port) edit version other = refl
-told_other (refusal.Disjoint feature port) edit version other = refl
-told_other (refusal.Full what) edit version other = refl
-told_other (refusal.Ahead seen latest) edit version other = refl
-told_other (refusal.NoStart feature port) edit version other = refl
-told_other (refusal.StartIsValve feature terminal) edit version other = refl
-told_other (refusal.BadCondition place) edit version other = refl
-told_other (refusal.DirtyGround area feature port) edit version other = refl
-told_other (refusal.NotIsolable feature terminal) edit version other = refl
-told_other (refusal.BadRuleTerminal place) edit version other = refl
-told_other (refusal.RuleExists place) edit version other = refl
-told_other refusal.Memory edit version other = absurd (other refl)
+pub fields_other : (r : Refusal) (edit : Option ℕ) (version : ℕ) → r ≢ refusal.Memory → refusal_value r edit version ≡ fields_value (fields_of r) edit version
+fields_other refusal.NotJson edit version other = refl
+fields_other (refusal.BadRequest place) edit version other = refl
+fields_other refusal.LineTooLong edit version other = refl
+fields_other (refusal.BadSchema place) edit version other = refl
+fields_other (refusal.NoSuchFeature id) edit version other = refl
+fields_other (refusal.Moved at) edit version other = refl
+fields_other (refusal.BadShape place) edit version other = refl
+fields_other (refusal.NoSuchKind kind) edit version other = refl
+fields_other (refusal.BadAttribute attribute) edit version other = refl
+fields_other (refusal.BadTerminal feature) edit version other = refl
+fields_other refusal.BadPath edit version other = refl
+fields_other (refusal.HasAssociations least) edit version other = refl
+fields_other refusal.HasControllers edit version other = refl
+fields_other refusal.NoSuchAssociation edit version other = refl
+fields_other refusal.WrongKind edit version other = refl
+fields_other (refusal.AlreadyContained by) edit version other = refl
+fields_other refusal.ContainsItself edit version other = refl
+fields_other refusal.NoSuchTier edit version other = refl
+fields_other refusal.NotController edit version other = refl
+fields_other refusal.ControllerExists edit version other = refl
+fields_other refusal.NoSuchController edit version other = refl
+fields_other refusal.NoSuchSubnetwork edit version other = refl
+fields_other (refusal.Conflict subnet feature port) edit version other = refl
+fields_other (refusal.Disjoint feature port) edit version other = refl
+fields_other (refusal.Full what) edit version other = refl
+fields_other (refusal.Ahead seen latest) edit version other = refl
+fields_other (refusal.NoStart feature port) edit version other = refl
+fields_other (refusal.StartIsValve feature terminal) edit version other = refl
+fields_other (refusal.BadCondition place) edit version other = refl
+fields_other (refusal.DirtyGround area feature port) edit version other = refl
+fields_other (refusal.NotIsolable feature terminal) edit version other = refl
+fields_other (refusal.BadRuleTerminal place) edit version other = refl
+fields_other (refusal.RuleExists place) edit version other = refl
+fields_other refusal.Memory edit version other = absurd (other refl)
 
 -- one piece, and then the others
 pub piece : (start a end x rest : List ℕ) → a ≡ start ++ x → end ≡ a ++ rest → end ≡ start ++ (x ++ rest)
 piece start a end x rest first others = others ∙ ap (λ t. t ++ rest) first ∙ append_assoc start x rest
 
 -- a refusal is put part by part
-pub told_steps : (r : Refusal) (edit : Option ℕ) (version number : ℕ) (name start a b c d e f g h i j k : List ℕ)
-    → number ≡ (told_of r).error → name ≡ (told_of r).name
+pub fields_steps : (r : Refusal) (edit : Option ℕ) (version number : ℕ) (name start a b c d e f g h i j k : List ℕ)
+    → number ≡ (fields_of r).error → name ≡ (fields_of r).name
     → a ≡ start ++ codes "{" → b ≡ a ++ leading (early r) → c ≡ b ++ leading (edit_member edit) → d ≡ c ++ codes "\"error\":" → e ≡ d ++ decimal number
     → f ≡ e ++ following (middle r) → g ≡ f ++ following ((codes "name", string name) ∷ []) → h ≡ g ++ following (late r)
-    → i ≡ h ++ following (version_member (tells_version number) version) → j ≡ i ++ following (last r) → k ≡ j ++ codes "}"
-    → k ≡ start ++ compact_text (told_value (told_of r) edit version)
-told_steps r edit version number name start a b c d e f g h i j k numbered named one two three four five six seven eight nine ten eleven =
+    → i ≡ h ++ following (version_member (has_version number) version) → j ≡ i ++ following (last r) → k ≡ j ++ codes "}"
+    → k ≡ start ++ compact_text (fields_value (fields_of r) edit version)
+fields_steps r edit version number name start a b c d e f g h i j k numbered named one two three four five six seven eight nine ten eleven =
     piece start a k _ _ one (piece a b k _ _ two (piece b c k _ _ three (piece c d k _ _ four (piece d e k _ _ (five ∙ ap (λ n. d ++ decimal n) numbered) (piece e f k _ _ six
     (piece f g k _ _ (seven ∙ ap (λ t. f ++ following ((codes "name", string t) ∷ [])) named) (piece g h k _ _ eight
-    (piece h i k _ _ (nine ∙ ap (λ n. h ++ following (version_member (tells_version n) version)) numbered) (piece i j k _ _ ten eleven)))))))))
-    ∙ ap (λ t. start ++ t) (sym (told_text r edit version))
+    (piece h i k _ _ (nine ∙ ap (λ n. h ++ following (version_member (has_version n) version)) numbered) (piece i j k _ _ ten eleven)))))))))
+    ∙ ap (λ t. start ++ t) (sym (fields_text r edit version))
 
 -- a name is printed as it is
-pub name_plain : (r : Refusal) → escape (told_of r).name ≡ (told_of r).name
+pub name_plain : (r : Refusal) → escape (fields_of r).name ≡ (fields_of r).name
 unfolding serde_json_on_literals
 name_plain refusal.NotJson = refl
 name_plain (refusal.BadRequest place) = refl
@@ -257,7 +257,7 @@ name_plain (refusal.BadRuleTerminal place) = refl
 name_plain (refusal.RuleExists place) = refl
 name_plain refusal.Memory = refl
 
-pub name_short : (r : Refusal) → length (told_of r).name ≤ 17
+pub name_short : (r : Refusal) → length (fields_of r).name ≤ 17
 name_short refusal.NotJson = lit≤ tt
 name_short (refusal.BadRequest place) = lit≤ tt
 name_short refusal.LineTooLong = lit≤ tt

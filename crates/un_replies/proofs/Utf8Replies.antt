@@ -30,8 +30,8 @@ use Rattle.un_ask.specs.declared.reply.ResultReply.{ResultReply}
 use Rattle.un_ask.specs.declared.reply.Reply.{Reply}
 use Rattle.un_ask.specs.declared.reply.Reply.TheVariants as reply
 use Rattle.un_replies.specs.Values.{count, counts, list, in_order, object_of}
-use Rattle.un_replies.specs.Refusals.{Told, told_of, limit_text, edit_member, version_member, tells_version, told_value, refusal_value}
-use Rattle.un_replies.specs.Replies.{error_text, flow_text, stored_status, status_text, path_text, point, port, area, placed_error, part, segment, controller, total, attribute, feature_value, result_value, shown}
+use Rattle.un_replies.specs.Refusals.{RefusalFields, fields_of, limit_text, edit_member, version_member, has_version, fields_value, refusal_value}
+use Rattle.un_replies.specs.Replies.{error_text, flow_text, stored_status, status_text, path_text, point, port, area, placed_error, part, segment, controller, total, attribute, feature_value, result_value, reply_value}
 use Rattle.un_replies.specs.ReadBack.{HasUtf8Name, FeatureHasUtf8, HasUtf8Texts, Utf8Law}
 use Rattle.un_replies.proofs.Utf8.{EachText, EachMemberText, ascii, compact_text_utf8}
 
@@ -193,49 +193,49 @@ of_edit : (edit : Option ℕ) → AreUtf8 (edit_member edit)
 of_edit None = tt
 of_edit (Some edit) = ((ascii refl, tt), tt)
 
-of_version : (told : Bool) (version : ℕ) → AreUtf8 (version_member told version)
+of_version : (refusal_fields : Bool) (version : ℕ) → AreUtf8 (version_member refusal_fields version)
 of_version true version = ((ascii refl, tt), tt)
 of_version false version = tt
 
-of_told : (t : Told) (edit : Option ℕ) (version : ℕ) → IsUtf8 t.name → AreUtf8 t.carried → EachText IsUtf8 (told_value t edit version)
-of_told t edit version name h =
-    of_object ((codes "error", count t.error) ∷ (codes "name", string t.name) ∷ t.carried ++ (edit_member edit ++ version_member (tells_version t.error) version))
-    ((ascii refl, tt), ((ascii refl, name), AreUtf8-append t.carried _ h (AreUtf8-append (edit_member edit) _ (of_edit edit) (of_version (tells_version t.error) version))))
+of_fields : (t : RefusalFields) (edit : Option ℕ) (version : ℕ) → IsUtf8 t.name → AreUtf8 t.carried → EachText IsUtf8 (fields_value t edit version)
+of_fields t edit version name h =
+    of_object ((codes "error", count t.error) ∷ (codes "name", string t.name) ∷ t.carried ++ (edit_member edit ++ version_member (has_version t.error) version))
+    ((ascii refl, tt), ((ascii refl, name), AreUtf8-append t.carried _ h (AreUtf8-append (edit_member edit) _ (of_edit edit) (of_version (has_version t.error) version))))
 
 of_refusal : (r : Refusal) (edit : Option ℕ) (version : ℕ) → HasUtf8Name r → EachText IsUtf8 (refusal_value r edit version)
-of_refusal refusal.NotJson edit version h = of_told (told_of refusal.NotJson) edit version (ascii refl) tt
-of_refusal (refusal.BadRequest place) edit version h = of_told (told_of (refusal.BadRequest place)) edit version (ascii refl) ((ascii refl, place_utf8 place), tt)
-of_refusal refusal.LineTooLong edit version h = of_told (told_of refusal.LineTooLong) edit version (ascii refl) tt
-of_refusal (refusal.BadSchema place) edit version h = of_told (told_of (refusal.BadSchema place)) edit version (ascii refl) ((ascii refl, place_utf8 place), tt)
-of_refusal (refusal.NoSuchFeature id) edit version h = of_told (told_of (refusal.NoSuchFeature id)) edit version (ascii refl) ((ascii refl, tt), tt)
-of_refusal (refusal.Moved at) edit version h = of_told (told_of (refusal.Moved at)) edit version (ascii refl) ((ascii refl, tt), tt)
-of_refusal (refusal.BadShape place) edit version h = of_told (told_of (refusal.BadShape place)) edit version (ascii refl) ((ascii refl, tt), tt)
-of_refusal (refusal.NoSuchKind kind) edit version h = of_told (told_of (refusal.NoSuchKind kind)) edit version (ascii refl) ((ascii refl, h), tt)
-of_refusal (refusal.BadAttribute attribute) edit version h = of_told (told_of (refusal.BadAttribute attribute)) edit version (ascii refl) ((ascii refl, h), tt)
-of_refusal (refusal.BadTerminal feature) edit version h = of_told (told_of (refusal.BadTerminal feature)) edit version (ascii refl) ((ascii refl, tt), tt)
-of_refusal refusal.BadPath edit version h = of_told (told_of refusal.BadPath) edit version (ascii refl) tt
-of_refusal (refusal.HasAssociations least) edit version h = of_told (told_of (refusal.HasAssociations least)) edit version (ascii refl) ((ascii refl, tt), tt)
-of_refusal refusal.HasControllers edit version h = of_told (told_of refusal.HasControllers) edit version (ascii refl) tt
-of_refusal refusal.NoSuchAssociation edit version h = of_told (told_of refusal.NoSuchAssociation) edit version (ascii refl) tt
-of_refusal refusal.WrongKind edit version h = of_told (told_of refusal.WrongKind) edit version (ascii refl) tt
-of_refusal (refusal.AlreadyContained by) edit version h = of_told (told_of (refusal.AlreadyContained by)) edit version (ascii refl) ((ascii refl, tt), tt)
-of_refusal refusal.ContainsItself edit version h = of_told (told_of refusal.ContainsItself) edit version (ascii refl) tt
-of_refusal refusal.NoSuchTier edit version h = of_told (told_of refusal.NoSuchTier) edit version (ascii refl) tt
-of_refusal refusal.NotController edit version h = of_told (told_of refusal.NotController) edit version (ascii refl) tt
-of_refusal refusal.ControllerExists edit version h = of_told (told_of refusal.ControllerExists) edit version (ascii refl) tt
-of_refusal refusal.NoSuchController edit version h = of_told (told_of refusal.NoSuchController) edit version (ascii refl) tt
-of_refusal refusal.NoSuchSubnetwork edit version h = of_told (told_of refusal.NoSuchSubnetwork) edit version (ascii refl) tt
-of_refusal (refusal.Conflict subnet feature port) edit version h = of_told (told_of (refusal.Conflict subnet feature port)) edit version (ascii refl) ((ascii refl, h), ((ascii refl, tt), ((ascii refl, tt), tt)))
-of_refusal (refusal.Disjoint feature port) edit version h = of_told (told_of (refusal.Disjoint feature port)) edit version (ascii refl) ((ascii refl, tt), ((ascii refl, tt), tt))
-of_refusal (refusal.Full what) edit version h = of_told (told_of (refusal.Full what)) edit version (ascii refl) ((ascii refl, limit_utf8 what), tt)
-of_refusal (refusal.Ahead seen latest) edit version h = of_told (told_of (refusal.Ahead seen latest)) edit version (ascii refl) ((ascii refl, tt), ((ascii refl, tt), tt))
-of_refusal (refusal.NoStart feature port) edit version h = of_told (told_of (refusal.NoStart feature port)) edit version (ascii refl) ((ascii refl, tt), ((ascii refl, tt), tt))
-of_refusal (refusal.StartIsValve feature terminal) edit version h = of_told (told_of (refusal.StartIsValve feature terminal)) edit version (ascii refl) ((ascii refl, tt), ((ascii refl, tt), tt))
-of_refusal (refusal.BadCondition place) edit version h = of_told (told_of (refusal.BadCondition place)) edit version (ascii refl) ((ascii refl, place_utf8 place), tt)
-of_refusal (refusal.DirtyGround area feature port) edit version h = of_told (told_of (refusal.DirtyGround area feature port)) edit version (ascii refl) ((ascii refl, tt), ((ascii refl, tt), ((ascii refl, tt), tt)))
-of_refusal (refusal.NotIsolable feature terminal) edit version h = of_told (told_of (refusal.NotIsolable feature terminal)) edit version (ascii refl) ((ascii refl, tt), ((ascii refl, tt), tt))
-of_refusal (refusal.BadRuleTerminal place) edit version h = of_told (told_of (refusal.BadRuleTerminal place)) edit version (ascii refl) ((ascii refl, tt), tt)
-of_refusal (refusal.RuleExists place) edit version h = of_told (told_of (refusal.RuleExists place)) edit version (ascii refl) ((ascii refl, tt), tt)
+of_refusal refusal.NotJson edit version h = of_fields (fields_of refusal.NotJson) edit version (ascii refl) tt
+of_refusal (refusal.BadRequest place) edit version h = of_fields (fields_of (refusal.BadRequest place)) edit version (ascii refl) ((ascii refl, place_utf8 place), tt)
+of_refusal refusal.LineTooLong edit version h = of_fields (fields_of refusal.LineTooLong) edit version (ascii refl) tt
+of_refusal (refusal.BadSchema place) edit version h = of_fields (fields_of (refusal.BadSchema place)) edit version (ascii refl) ((ascii refl, place_utf8 place), tt)
+of_refusal (refusal.NoSuchFeature id) edit version h = of_fields (fields_of (refusal.NoSuchFeature id)) edit version (ascii refl) ((ascii refl, tt), tt)
+of_refusal (refusal.Moved at) edit version h = of_fields (fields_of (refusal.Moved at)) edit version (ascii refl) ((ascii refl, tt), tt)
+of_refusal (refusal.BadShape place) edit version h = of_fields (fields_of (refusal.BadShape place)) edit version (ascii refl) ((ascii refl, tt), tt)
+of_refusal (refusal.NoSuchKind kind) edit version h = of_fields (fields_of (refusal.NoSuchKind kind)) edit version (ascii refl) ((ascii refl, h), tt)
+of_refusal (refusal.BadAttribute attribute) edit version h = of_fields (fields_of (refusal.BadAttribute attribute)) edit version (ascii refl) ((ascii refl, h), tt)
+of_refusal (refusal.BadTerminal feature) edit version h = of_fields (fields_of (refusal.BadTerminal feature)) edit version (ascii refl) ((ascii refl, tt), tt)
+of_refusal refusal.BadPath edit version h = of_fields (fields_of refusal.BadPath) edit version (ascii refl) tt
+of_refusal (refusal.HasAssociations least) edit version h = of_fields (fields_of (refusal.HasAssociations least)) edit version (ascii refl) ((ascii refl, tt), tt)
+of_refusal refusal.HasControllers edit version h = of_fields (fields_of refusal.HasControllers) edit version (ascii refl) tt
+of_refusal refusal.NoSuchAssociation edit version h = of_fields (fields_of refusal.NoSuchAssociation) edit version (ascii refl) tt
+of_refusal refusal.WrongKind edit version h = of_fields (fields_of refusal.WrongKind) edit version (ascii refl) tt
+of_refusal (refusal.AlreadyContained by) edit version h = of_fields (fields_of (refusal.AlreadyContained by)) edit version (ascii refl) ((ascii refl, tt), tt)
+of_refusal refusal.ContainsItself edit version h = of_fields (fields_of refusal.ContainsItself) edit version (ascii refl) tt
+of_refusal refusal.NoSuchTier edit version h = of_fields (fields_of refusal.NoSuchTier) edit version (ascii refl) tt
+of_refusal refusal.NotController edit version h = of_fields (fields_of refusal.NotController) edit version (ascii refl) tt
+of_refusal refusal.ControllerExists edit version h = of_fields (fields_of refusal.ControllerExists) edit version (ascii refl) tt
+of_refusal refusal.NoSuchController edit version h = of_fields (fields_of refusal.NoSuchController) edit version (ascii refl) tt
+of_refusal refusal.NoSuchSubnetwork edit version h = of_fields (fields_of refusal.NoSuchSubnetwork) edit version (ascii refl) tt
+of_refusal (refusal.Conflict subnet feature port) edit version h = of_fields (fields_of (refusal.Conflict subnet feature port)) edit version (ascii refl) ((ascii refl, h), ((ascii refl, tt), ((ascii refl, tt), tt)))
+of_refusal (refusal.Disjoint feature port) edit version h = of_fields (fields_of (refusal.Disjoint feature port)) edit version (ascii refl) ((ascii refl, tt), ((ascii refl, tt), tt))
+of_refusal (refusal.Full what) edit version h = of_fields (fields_of (refusal.Full what)) edit version (ascii refl) ((ascii refl, limit_utf8 what), tt)
+of_refusal (refusal.Ahead seen latest) edit version h = of_fields (fields_of (refusal.Ahead seen latest)) edit version (ascii refl) ((ascii refl, tt), ((ascii refl, tt), tt))
+of_refusal (refusal.NoStart feature port) edit version h = of_fields (fields_of (refusal.NoStart feature port)) edit version (ascii refl) ((ascii refl, tt), ((ascii refl, tt), tt))
+of_refusal (refusal.StartIsValve feature terminal) edit version h = of_fields (fields_of (refusal.StartIsValve feature terminal)) edit version (ascii refl) ((ascii refl, tt), ((ascii refl, tt), tt))
+of_refusal (refusal.BadCondition place) edit version h = of_fields (fields_of (refusal.BadCondition place)) edit version (ascii refl) ((ascii refl, place_utf8 place), tt)
+of_refusal (refusal.DirtyGround area feature port) edit version h = of_fields (fields_of (refusal.DirtyGround area feature port)) edit version (ascii refl) ((ascii refl, tt), ((ascii refl, tt), ((ascii refl, tt), tt)))
+of_refusal (refusal.NotIsolable feature terminal) edit version h = of_fields (fields_of (refusal.NotIsolable feature terminal)) edit version (ascii refl) ((ascii refl, tt), ((ascii refl, tt), tt))
+of_refusal (refusal.BadRuleTerminal place) edit version h = of_fields (fields_of (refusal.BadRuleTerminal place)) edit version (ascii refl) ((ascii refl, tt), tt)
+of_refusal (refusal.RuleExists place) edit version h = of_fields (fields_of (refusal.RuleExists place)) edit version (ascii refl) ((ascii refl, tt), tt)
 of_refusal refusal.Memory edit version h = (ascii refl, (tt, tt))
 
 -- ---- replies
@@ -248,7 +248,7 @@ of_result : (r : ResultReply) (version : ℕ) → EachText IsUtf8 (result_value 
 of_result r version =
     (ascii refl, (of_counts r.containers, (ascii refl, (of_counts r.content, (ascii refl, (of_list part (λ p. (tt, (of_counts p.numbers, tt))) r.features, (ascii refl, (of_list total of_total r.functions, (ascii refl, (trace_utf8 r.kind, (ascii refl, (of_counts r.structures, (ascii refl, (tt, tt))))))))))))))
 
-of_reply : (r : Reply) → HasUtf8Texts r → EachText IsUtf8 (shown r)
+of_reply : (r : Reply) → HasUtf8Texts r → EachText IsUtf8 (reply_value r)
 of_reply (reply.Edited areas id word version) h =
     (ascii refl, (of_counts areas, (ascii refl, (tt, (ascii refl, (edit_utf8 word, (ascii refl, (tt, tt))))))))
 of_reply (reply.Batch areas ids version) h =
@@ -278,4 +278,4 @@ of_reply (reply.Isolation borders features version) h =
 of_reply (reply.Refused refusal edit version) h = of_refusal refusal edit version h
 
 pub replies_are_utf8 : Utf8Law
-replies_are_utf8 r h = compact_text_utf8 (shown r) (of_reply r h)
+replies_are_utf8 r h = compact_text_utf8 (reply_value r) (of_reply r h)

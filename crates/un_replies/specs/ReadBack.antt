@@ -8,7 +8,7 @@ use Rattle.un_defs.specs.declared.refusal.Refusal.TheVariants as refusal
 use Rattle.un_ask.specs.declared.reply.FeatureReply.{FeatureReply}
 use Rattle.un_ask.specs.declared.reply.Reply.{Reply}
 use Rattle.un_ask.specs.declared.reply.Reply.TheVariants as reply
-use Rattle.un_replies.specs.Replies.{shown, print}
+use Rattle.un_replies.specs.Replies.{reply_value, print}
 
 -- ---- numbers
 
@@ -99,11 +99,11 @@ HasUtf8Texts other = ⊤
 
 -- what is printed of a reply is JSON, and its value is the reply's
 abbrev pub ReadBackLaw : Type 0
-ReadBackLaw = (reply : Reply) → EachNumber Has64Bits (shown reply) → read (print reply) ≡ Some (shown reply)
+ReadBackLaw = (reply : Reply) → EachNumber Has64Bits (reply_value reply) → read (print reply) ≡ Some (reply_value reply)
 
 -- the same where numbers have more than 64 bits, as the sum of a function may have: they are read as the nearest floats
 abbrev pub WideReadBackLaw : Type 0
-WideReadBackLaw = (reply : Reply) → EachNumber Has128Bits (shown reply) → read (print reply) ≡ Some (value_read (shown reply))
+WideReadBackLaw = (reply : Reply) → EachNumber Has128Bits (reply_value reply) → read (print reply) ≡ Some (value_read (reply_value reply))
 
 -- what is printed of a reply is UTF-8, as a reader of bytes asks
 abbrev pub Utf8Law : Type 0

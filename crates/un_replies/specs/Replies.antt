@@ -106,36 +106,36 @@ result_value r version = object_of (
     ∷ (codes "functions", list total r.functions) ∷ (codes "ok", string (trace_text r.kind)) ∷ (codes "structures", counts r.structures)
     ∷ (codes "version", count version) ∷ [])
 
-abbrev pub shown : Reply → Data
-shown (reply.Edited areas id word version) = object_of (
+abbrev pub reply_value : Reply → Data
+reply_value (reply.Edited areas id word version) = object_of (
     (codes "areas", counts areas) ∷ (codes "id", count id) ∷ (codes "ok", string (edit_text word)) ∷ (codes "version", count version) ∷ [])
-shown (reply.Batch areas ids version) = object_of (
+reply_value (reply.Batch areas ids version) = object_of (
     (codes "areas", counts areas) ∷ (codes "ids", counts ids) ∷ (codes "ok", string (codes "batch")) ∷ (codes "version", count version) ∷ [])
-shown (reply.Ruled areas rules version) = object_of (
+reply_value (reply.Ruled areas rules version) = object_of (
     (codes "areas", counts areas) ∷ (codes "ok", string (codes "rule")) ∷ (codes "rules", count rules) ∷ (codes "version", count version) ∷ [])
-shown (reply.Validated cleared errors version) = object_of (
+reply_value (reply.Validated cleared errors version) = object_of (
     (codes "cleared", count cleared) ∷ (codes "errors", count errors) ∷ (codes "ok", string (codes "validate")) ∷ (codes "version", count version) ∷ [])
-shown (reply.Updated row version) = object_of (
+reply_value (reply.Updated row version) = object_of (
     (codes "members", count (stored_members row)) ∷ (codes "ok", string (codes "update")) ∷ (codes "status", string (stored_status row))
     ∷ (codes "version", count version) ∷ [])
-shown (reply.Version version) = object_of ((codes "ok", string (codes "version")) ∷ (codes "version", count version) ∷ [])
-shown (reply.Feature feature version) = feature_value feature version
-shown (reply.Dirty areas version) = object_of (
+reply_value (reply.Version version) = object_of ((codes "ok", string (codes "version")) ∷ (codes "version", count version) ∷ [])
+reply_value (reply.Feature feature version) = feature_value feature version
+reply_value (reply.Dirty areas version) = object_of (
     (codes "areas", list area areas) ∷ (codes "ok", string (codes "dirty")) ∷ (codes "version", count version) ∷ [])
-shown (reply.Errors errors version) = object_of (
+reply_value (reply.Errors errors version) = object_of (
     (codes "errors", list placed_error errors) ∷ (codes "ok", string (codes "errors")) ∷ (codes "version", count version) ∷ [])
-shown (reply.Subnet controllers members status subnet tier updated version) = object_of (
+reply_value (reply.Subnet controllers members status subnet tier updated version) = object_of (
     (codes "controllers", list port controllers) ∷ (codes "members", counts members) ∷ (codes "ok", string (codes "subnet")) ∷ (codes "status", string (status_text status))
     ∷ (codes "subnet", string subnet) ∷ (codes "tier", string tier) ∷ (codes "updated", count updated) ∷ (codes "version", count version) ∷ [])
-shown (reply.Traced result version) = result_value result version
-shown (reply.Controllers controllers version) = object_of (
+reply_value (reply.Traced result version) = result_value result version
+reply_value (reply.Controllers controllers version) = object_of (
     (codes "controllers", list controller controllers) ∷ (codes "ok", string (codes "controllers")) ∷ (codes "version", count version) ∷ [])
-shown (reply.Loops segments version) = object_of (
+reply_value (reply.Loops segments version) = object_of (
     (codes "ok", string (codes "loops")) ∷ (codes "segments", list segment segments) ∷ (codes "version", count version) ∷ [])
-shown (reply.Isolation borders features version) = object_of (
+reply_value (reply.Isolation borders features version) = object_of (
     (codes "borders", list port borders) ∷ (codes "features", list part features) ∷ (codes "ok", string (codes "isolation")) ∷ (codes "version", count version) ∷ [])
-shown (reply.Refused refusal edit version) = refusal_value refusal edit version
+reply_value (reply.Refused refusal edit version) = refusal_value refusal edit version
 
 -- the text of a reply
 abbrev pub print : Reply → List ℕ
-print r = compact_text (shown r)
+print r = compact_text (reply_value r)

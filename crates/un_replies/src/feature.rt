@@ -8,7 +8,7 @@ ghost use Rattle.un_replies.specs.Values.{object_of};
 ghost use Rattle.un_replies.specs.Replies.{attribute, feature_value, flow_text, path_text};
 ghost use Rattle.un_replies.specs.Pieces.{members_of};
 
-use crate::shown::{Shown, count_member, list_member, string_member};
+use crate::to_json::{ToJson, count_member, list_member, string_member};
 use json::Writer;
 use std::alloc::AllocError;
 use un_ask::FeatureReply;

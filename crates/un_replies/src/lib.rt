@@ -11,10 +11,7 @@ mod print;
 mod put;
 mod query;
 mod refusal;
-mod shown;
+mod to_json;
 
 pub use command::{COMMAND_REPLY_ROOM, print_command_reply};
 pub use print::print_reply;
-
-#[cfg(test)]
-mod tests;

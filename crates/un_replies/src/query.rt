@@ -5,11 +5,11 @@ ghost use Rattle.json.specs.Tree.{json_tokens};
 ghost use Rattle.serde_json.specs.Written.{outline};
 ghost use Rattle.un_ask.specs.declared.reply.Reply.TheVariants as reply;
 ghost use Rattle.un_replies.specs.Commands.{IsOfCommand};
-ghost use Rattle.un_replies.specs.Replies.{shown, result_value, status_text, port};
+ghost use Rattle.un_replies.specs.Replies.{reply_value, result_value, status_text, port};
 ghost use Rattle.un_replies.specs.Values.{counts, list};
 
 use crate::feature::show_feature;
-use crate::shown::{count_member, list_member, string_member};
+use crate::to_json::{count_member, list_member, string_member};
 use json::Writer;
 use std::alloc::AllocError;
 use un_ask::results::{Controllers, Parts, Segments};
@@ -19,7 +19,7 @@ use un_defs::port::Ports;
 use un_schema::Name;
 
 fn show_version(version: u64, out: &mut Writer) -> Result<(), AllocError>
-    ensures ok { OnOk result (out.new.tokens ≡ out.old.tokens ++ json_tokens (outline (shown (reply.Version version)))) }
+    ensures ok { OnOk result (out.new.tokens ≡ out.old.tokens ++ json_tokens (outline (reply_value (reply.Version version)))) }
     ensures before { out.new.before ≡ out.old.before }
 {
     out.begin_object()?;
@@ -29,7 +29,7 @@ fn show_version(version: u64, out: &mut Writer) -> Result<(), AllocError>
 }
 
 fn show_dirty(areas: &Areas, version: u64, out: &mut Writer) -> Result<(), AllocError>
-    ensures ok { OnOk result (out.new.tokens ≡ out.old.tokens ++ json_tokens (outline (shown (reply.Dirty areas.now version)))) }
+    ensures ok { OnOk result (out.new.tokens ≡ out.old.tokens ++ json_tokens (outline (reply_value (reply.Dirty areas.now version)))) }
     ensures before { out.new.before ≡ out.old.before }
 {
     out.begin_object()?;
@@ -40,7 +40,7 @@ fn show_dirty(areas: &Areas, version: u64, out: &mut Writer) -> Result<(), Alloc
 }
 
 fn show_errors(errors: &PlacedErrors, version: u64, out: &mut Writer) -> Result<(), AllocError>
-    ensures ok { OnOk result (out.new.tokens ≡ out.old.tokens ++ json_tokens (outline (shown (reply.Errors errors.now version)))) }
+    ensures ok { OnOk result (out.new.tokens ≡ out.old.tokens ++ json_tokens (outline (reply_value (reply.Errors errors.now version)))) }
     ensures before { out.new.before ≡ out.old.before }
 {
     out.begin_object()?;
@@ -80,7 +80,7 @@ fn show_controllers(
     version: u64,
     out: &mut Writer,
 ) -> Result<(), AllocError>
-    ensures ok { OnOk result (out.new.tokens ≡ out.old.tokens ++ json_tokens (outline (shown (reply.Controllers controllers.now version)))) }
+    ensures ok { OnOk result (out.new.tokens ≡ out.old.tokens ++ json_tokens (outline (reply_value (reply.Controllers controllers.now version)))) }
     ensures before { out.new.before ≡ out.old.before }
 {
     out.begin_object()?;
@@ -91,7 +91,7 @@ fn show_controllers(
 }
 
 fn show_loops(segments: &Segments, version: u64, out: &mut Writer) -> Result<(), AllocError>
-    ensures ok { OnOk result (out.new.tokens ≡ out.old.tokens ++ json_tokens (outline (shown (reply.Loops segments.now version)))) }
+    ensures ok { OnOk result (out.new.tokens ≡ out.old.tokens ++ json_tokens (outline (reply_value (reply.Loops segments.now version)))) }
     ensures before { out.new.before ≡ out.old.before }
 {
     out.begin_object()?;
@@ -108,7 +108,7 @@ fn show_isolation(
     out: &mut Writer,
 ) -> Result<(), AllocError>
     ensures ok { OnOk result (out.new.tokens
-        ≡ out.old.tokens ++ json_tokens (outline (shown (reply.Isolation borders.now features.now version)))) }
+        ≡ out.old.tokens ++ json_tokens (outline (reply_value (reply.Isolation borders.now features.now version)))) }
     ensures before { out.new.before ≡ out.old.before }
 {
     out.begin_object()?;
@@ -159,7 +159,7 @@ fn show_stored(
 #[tactic(auto, using(crate::proofs::Commands::other_query))]
 pub(crate) fn show_query(reply: &Reply, out: &mut Writer) -> Result<(), AllocError>
     requires { ¬ IsOfCommand reply.now }
-    ensures ok { OnOk result (out.new.tokens ≡ out.old.tokens ++ json_tokens (outline (shown reply.now))) }
+    ensures ok { OnOk result (out.new.tokens ≡ out.old.tokens ++ json_tokens (outline (reply_value reply.now))) }
     ensures before { out.new.before ≡ out.old.before }
 {
     match reply {

@@ -7,7 +7,7 @@ ghost use Rattle.serde_json.specs.Data.{string};
 ghost use Rattle.un_schema.specs.Places.{place_text};
 ghost use Rattle.serde_json.specs.Written.{compact_text};
 ghost use Rattle.un_replies.specs.Commands.{HasName};
-ghost use Rattle.un_replies.specs.Refusals.{refusal_value, told_value, told_of, limit_text, tells_version, edit_member, version_member};
+ghost use Rattle.un_replies.specs.Refusals.{refusal_value, fields_value, fields_of, limit_text, has_version, edit_member, version_member};
 ghost use Rattle.un_replies.specs.Pieces.{leading, following, early, middle, late, last};
 
 use crate::member::{follow_count, follow_name, follow_string, lead_count, lead_name};
@@ -17,7 +17,7 @@ use un_schema::Place;
 
 /// The number of a refusal.
 fn number_of(refusal: &Refusal) -> u64
-    ensures { result ≡ (told_of refusal.now).error }
+    ensures { result ≡ (fields_of refusal.now).error }
 {
     match refusal {
         Refusal::NotJson => 1,
@@ -60,7 +60,7 @@ fn number_of(refusal: &Refusal) -> u64
 
 /// The name of a refusal.
 fn name_of(refusal: &Refusal) -> &'static str
-    ensures { result.now ≡ (told_of refusal.now).name }
+    ensures { result.now ≡ (fields_of refusal.now).name }
 {
     match refusal {
         Refusal::NotJson => "NotJson",
@@ -228,8 +228,8 @@ fn put_edit(out: &mut Vec<u8>, edit: Option<u64>)
 }
 
 /// Whether the version is told with the refusal that has this number.
-fn tells_version(number: u64) -> bool
-    ensures { result ≡ tells_version number }
+fn has_version(number: u64) -> bool
+    ensures { result ≡ has_version number }
 {
     !matches!(number, 1 | 2 | 3 | 6 | 31)
 }
@@ -238,21 +238,21 @@ fn tells_version(number: u64) -> bool
 #[tactic(auto, unfolding(serde_json::proofs::OnLiterals::serde_json_on_literals))]
 fn put_version(out: &mut Vec<u8>, number: u64, version: u64)
     requires { vec_len out.old + 31 ≤ vec_capacity out.old }
-    ensures items { out.new.items ≡ out.old.items ++ following (version_member (tells_version number) version) }
+    ensures items { out.new.items ≡ out.old.items ++ following (version_member (has_version number) version) }
     ensures len { vec_len out.new ≤ vec_len out.old + 31 }
     ensures capacity { vec_capacity out.old ≤ vec_capacity out.new }
 {
-    if tells_version(number) {
+    if has_version(number) {
         follow_count(out, "version", version);
     }
 }
 
 // Puts a refusal that has a number.
-#[tactic(auto, using(crate::proofs::RefusalTexts::told_steps, crate::proofs::RefusalTexts::name_plain, crate::proofs::RefusalTexts::name_short), unfolding(serde_json::proofs::OnLiterals::serde_json_on_literals))]
+#[tactic(auto, using(crate::proofs::RefusalTexts::fields_steps, crate::proofs::RefusalTexts::name_plain, crate::proofs::RefusalTexts::name_short), unfolding(serde_json::proofs::OnLiterals::serde_json_on_literals))]
 fn put_numbered(out: &mut Vec<u8>, refusal: &Refusal, edit: Option<u64>, version: u64)
     requires named { HasName refusal.now }
     requires room { vec_len out.old + 400 ≤ vec_capacity out.old }
-    ensures items { out.new.items ≡ out.old.items ++ compact_text (told_value (told_of refusal.now) edit version) }
+    ensures items { out.new.items ≡ out.old.items ++ compact_text (fields_value (fields_of refusal.now) edit version) }
     ensures len { vec_len out.new ≤ vec_len out.old + 400 }
     ensures capacity { vec_capacity out.old ≤ vec_capacity out.new }
 {
@@ -271,7 +271,7 @@ fn put_numbered(out: &mut Vec<u8>, refusal: &Refusal, edit: Option<u64>, version
 }
 
 /// Puts a refusal, with its place in a batch and the version where they are told.
-#[tactic(auto, using(crate::proofs::RefusalTexts::told_other), unfolding(serde_json::proofs::OnLiterals::serde_json_on_literals))]
+#[tactic(auto, using(crate::proofs::RefusalTexts::fields_other), unfolding(serde_json::proofs::OnLiterals::serde_json_on_literals))]
 pub(crate) fn put_refusal(out: &mut Vec<u8>, refusal: &Refusal, edit: Option<u64>, version: u64)
     requires named { HasName refusal.now }
     requires room { vec_len out.old + 400 ≤ vec_capacity out.old }

@@ -8,24 +8,24 @@ use Rattle.std.proofs.Math.Seq.{drop-cons}
 use Rattle.un_defs.specs.declared.port.Port.{Port}
 use Rattle.un_defs.specs.declared.port.Node.{Node}
 use Rattle.un_defs.specs.declared.refusal.Refusal.{Refusal}
-use Rattle.un_defs.specs.Dues.{first_due}
+use Rattle.un_defs.specs.Refusing.{first_refusal}
 use Rattle.un_defs.specs.Features.{Features}
 use Rattle.un_resolve.specs.Starts.{start_node, nodes_of}
 
 -- what is due of the ports from a place on, where nothing is due of the one there
-pub due_further : (due : Port → Option Refusal) (ports : List Port) (i : ℕ) (d : Port) → i < length ports → due (get_or ports i d) ≡ None
-    → first_due (map due (drop i ports)) ≡ first_due (map due (drop (i + 1) ports))
-due_further due ports i d l e =
+pub refusal_further : (cause : Port → Option Refusal) (ports : List Port) (i : ℕ) (d : Port) → i < length ports → cause (get_or ports i d) ≡ None
+    → first_refusal (map cause (drop i ports)) ≡ first_refusal (map cause (drop (i + 1) ports))
+refusal_further cause ports i d l e =
     let next : suc i ≡ i + 1 = omega arith in
-    ap (λ rest. first_due (map due rest)) (drop-cons ports i d l)
-    ∙ ap (λ o. first_due (o ∷ map due (drop (suc i) ports))) e
-    ∙ ap (λ k. first_due (map due (drop k ports))) next
+    ap (λ rest. first_refusal (map cause rest)) (drop-cons ports i d l)
+    ∙ ap (λ o. first_refusal (o ∷ map cause (drop (suc i) ports))) e
+    ∙ ap (λ k. first_refusal (map cause (drop k ports))) next
 
 -- the refusal that is due of the one there is due of those from there on
-pub due_here : (due : Port → Option Refusal) (ports : List Port) (i : ℕ) (d : Port) (r : Refusal) → i < length ports → due (get_or ports i d) ≡ Some r
-    → first_due (map due (drop i ports)) ≡ Some r
-due_here due ports i d r l e =
-    ap (λ rest. first_due (map due rest)) (drop-cons ports i d l) ∙ ap (λ o. first_due (o ∷ map due (drop (suc i) ports))) e
+pub refusal_here : (cause : Port → Option Refusal) (ports : List Port) (i : ℕ) (d : Port) (r : Refusal) → i < length ports → cause (get_or ports i d) ≡ Some r
+    → first_refusal (map cause (drop i ports)) ≡ Some r
+refusal_here cause ports i d r l e =
+    ap (λ rest. first_refusal (map cause rest)) (drop-cons ports i d l) ∙ ap (λ o. first_refusal (o ∷ map cause (drop (suc i) ports))) e
 
 -- a look-up finds what its copy finds
 pub some_copied : {A : Type 0} (o : Option (Bor A)) → is_some (option_copied o) ≡ is_some o

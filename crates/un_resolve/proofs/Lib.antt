@@ -1,2 +1,4 @@
 pub mod Checking
+pub mod NoMemory
 pub mod Tiers
+pub mod StartsStand

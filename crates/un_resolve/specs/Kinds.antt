@@ -4,7 +4,7 @@ use Rattle.un_schema.specs.declared.place.Place.{Place}
 use Rattle.un_schema.specs.declared.place.Place.TheVariants as place
 use Rattle.un_defs.specs.declared.refusal.Refusal.{Refusal}
 use Rattle.un_defs.specs.declared.refusal.Refusal.TheVariants as refusal
-use Rattle.un_defs.specs.Dues.{first_due, due_if}
+use Rattle.un_defs.specs.Refusing.{first_refusal, refused_if}
 use Rattle.un_ask.specs.declared.trace.TraceKind.{TraceKind}
 use Rattle.un_ask.specs.declared.trace.TraceKind.TheVariants as kind
 use Rattle.un_ask.specs.declared.trace.TraceAsk.{TraceAsk}
@@ -51,11 +51,11 @@ is_always_consistent kind.Isolation = true
 
 -- the member is needed and not given
 abbrev pub lacks : Bool → Bool → Place → Option Refusal
-lacks needed given place = due_if (needed && not given) (refusal.BadRequest place)
+lacks needed given place = refused_if (needed && not given) (refusal.BadRequest place)
 
 -- the first member that the kind needs and that is not given
 abbrev pub lacking : TraceAsk → Option Refusal
-lacking ask = first_due
+lacking ask = first_refusal
     (lacks (needs_tier ask.kind) (is_some ask.tier) place.Tier
     ∷ lacks (is_subnetwork ask.kind) (is_some ask.subnet) place.Subnet
     ∷ lacks (is_isolation ask.kind) (is_some ask.isolators) place.Isolators

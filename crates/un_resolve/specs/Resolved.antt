@@ -6,21 +6,22 @@ use Rattle.un_conds.specs.Names.{place_of}
 use Rattle.un_schema.specs.Catalog.{Catalog}
 use Rattle.un_schema.specs.declared.place.Place.{Place}
 use Rattle.un_schema.specs.declared.place.Place.TheVariants as place
+use Rattle.un_tiers.specs.declared.setup.Setup.{Setup}
 use Rattle.un_tiers.specs.declared.tier.Tier.{Tier}
 use Rattle.un_tiers.specs.Raw.{resolves, barrier_from}
 use Rattle.un_defs.specs.declared.refusal.Refusal.{Refusal}
 use Rattle.un_defs.specs.declared.refusal.Refusal.TheVariants as refusal
 use Rattle.un_defs.specs.declared.walk.Barriers.{Barriers}
-use Rattle.un_defs.specs.Dues.{first_due, due_if}
+use Rattle.un_defs.specs.Refusing.{first_refusal, refused_if}
+use Rattle.un_defs.specs.Features.{Features}
 use Rattle.un_ask.specs.declared.trace.TraceAsk.{TraceAsk}
 use Rattle.un_ask.specs.declared.trace.NamedFunc.{NamedFunc}
 use Rattle.un_ask.specs.declared.trace.NamedFunc.TheVariants as named
 use Rattle.un_ask.specs.declared.typed.Func.{Func}
 use Rattle.un_ask.specs.declared.typed.Func.TheVariants as func
 use Rattle.un_ask.specs.declared.typed.TypedAsk.{TypedAsk}
-use Rattle.un_facts.specs.Known.{Known}
 use Rattle.un_resolve.specs.Kinds.{is_always_consistent, lacking}
-use Rattle.un_resolve.specs.Starts.{tier_of, start_nodes, starts_due}
+use Rattle.un_resolve.specs.Starts.{tier_of, start_nodes, starts_refusal}
 
 -- ---- conditions
 
@@ -30,10 +31,10 @@ condition_of S cond = barrier_from S.attributes S.categories cond
 
 -- a condition is given that has an unknown name, or is too deep or too large
 abbrev pub bad_condition : Catalog → Option (Condition (List ℕ)) → Place → Option Refusal
-bad_condition S cond place = due_if (not (resolves S.attributes S.categories cond)) (refusal.BadCondition place)
+bad_condition S cond place = refused_if (not (resolves S.attributes S.categories cond)) (refusal.BadCondition place)
 
-abbrev pub conditions_due : Catalog → TraceAsk → Option Refusal
-conditions_due S ask = first_due (bad_condition S ask.isolators place.Isolators ∷ bad_condition S ask.barriers place.Barriers ∷ [])
+abbrev pub conditions_refusal : Catalog → TraceAsk → Option Refusal
+conditions_refusal S ask = first_refusal (bad_condition S ask.isolators place.Isolators ∷ bad_condition S ask.barriers place.Barriers ∷ [])
 
 -- ---- the tier
 
@@ -61,27 +62,27 @@ func_of S (named.Greatest name) = func.Greatest (place_of name S.attributes)
 -- ---- the trace
 
 -- where its walks stop
-abbrev pub barriers_of : Known → TraceAsk → Barriers
-barriers_of K ask = record {
-  request = condition_of K.setup.schema ask.barriers;
-  of_tier = tier_barrier K.setup.tiers (tier_of K ask);
+abbrev pub barriers_of : Setup → TraceAsk → Barriers
+barriers_of S ask = record {
+  request = condition_of S.schema ask.barriers;
+  of_tier = tier_barrier S.tiers (tier_of S ask);
   stops = ask.stops;
-  tier = tier_of K ask;
+  tier = tier_of S ask;
   consistent = is_always_consistent ask.kind || ask.consistent;
 }
 
-abbrev pub resolved : Known → TraceAsk → TypedAsk
-resolved K ask = record {
+abbrev pub resolved : Setup → Features → TraceAsk → TypedAsk
+resolved S F ask = record {
   kind = ask.kind;
-  starts = start_nodes K ask;
-  barriers = barriers_of K ask;
-  isolators = condition_of K.setup.schema ask.isolators;
+  starts = start_nodes S F ask;
+  barriers = barriers_of S ask;
+  isolators = condition_of S.schema ask.isolators;
   subnet = ask.subnet;
-  disjoint = tier_disjoint K.setup.tiers (tier_of K ask);
+  disjoint = tier_disjoint S.tiers (tier_of S ask);
   include = ask.include;
-  functions = map (func_of K.setup.schema) ask.functions;
+  functions = map (func_of S.schema) ask.functions;
 }
 
 -- the first refusal that can be told before a walk: what the request lacks, and then what its names and ports do not name
-abbrev pub resolving_due : Known → TraceAsk → Option Refusal
-resolving_due K ask = first_due (lacking ask ∷ starts_due K ask ∷ conditions_due K.setup.schema ask ∷ [])
+abbrev pub resolving_refusal : Setup → Features → TraceAsk → Option Refusal
+resolving_refusal S F ask = first_refusal (lacking ask ∷ starts_refusal S F ask ∷ conditions_refusal S.schema ask ∷ [])

@@ -3,14 +3,14 @@
 ghost use Rattle.std.specs.Prelude.{◌≡◌, ◌≢◌, map, Some, None, IfOk, OnOk, IfErr};
 ghost use Rattle.un_defs.specs.declared.refusal.Refusal.TheVariants.{Memory};
 ghost use Rattle.un_resolve.specs.Starts.{tier_of};
-ghost use Rattle.un_resolve.specs.Resolved.{condition_of, bad_condition, conditions_due, tier_barrier, tier_disjoint, func_of};
+ghost use Rattle.un_resolve.specs.Resolved.{condition_of, bad_condition, conditions_refusal, tier_barrier, tier_disjoint, func_of};
 
 use std::alloc::{AllocError, Global};
 use un_ask::{Func, NamedFunc, RawCondition, TraceAsk};
 use un_conds::{Cond, CondFault};
 use un_defs::Refusal;
-use un_facts::{Facts, Setup};
 use un_schema::{Name, Place, Schema};
+use un_tiers::Setup;
 
 /// The conditions of a trace: which devices isolate, and which entries are barriers.
 #[derive(Drop)]
@@ -48,8 +48,8 @@ pub(crate) fn conditions_of(
 ) -> Result<Conditions, Refusal>
     ensures isolators { IfOk result (λ c. c.isolators ≡ condition_of schema.now ask.now.isolators) }
     ensures barriers { IfOk result (λ c. c.barriers ≡ condition_of schema.now ask.now.barriers) }
-    ensures good { OnOk result (conditions_due schema.now ask.now ≡ None) }
-    ensures bad { IfErr result (λ r. r ≢ Memory → conditions_due schema.now ask.now ≡ Some r) }
+    ensures good { OnOk result (conditions_refusal schema.now ask.now ≡ None) }
+    ensures bad { IfErr result (λ r. r ≢ Memory → conditions_refusal schema.now ask.now ≡ Some r) }
 {
     let isolators = condition(alloc, schema, &ask.isolators, Place::Isolators)?;
     let barriers = condition(alloc, schema, &ask.barriers, Place::Barriers)?;
@@ -72,29 +72,29 @@ pub(crate) fn copy_name(alloc: Global, name: &Option<Name>) -> Result<Option<Nam
 /// What bounds the subnetworks of the trace's tier.
 pub(crate) fn tier_barrier(
     alloc: Global,
-    facts: &Facts,
+    setup: &Setup,
     ask: &TraceAsk,
     tier: Option<u8>,
 ) -> Result<Option<Cond>, AllocError>
-    requires { tier ≡ tier_of facts.now ask.now }
-    ensures { IfOk result (λ cond. cond ≡ tier_barrier facts.now.setup.tiers tier) }
+    requires { tier ≡ tier_of setup.now ask.now }
+    ensures { IfOk result (λ cond. cond ≡ tier_barrier setup.now.tiers tier) }
 {
     let Some(tier) = tier else {
         return Ok(None);
     };
-    match facts.setup().tiers.barrier(tier) {
+    match setup.tiers.barrier(tier) {
         Some(cond) => Ok(Some(cond.copy(alloc)?)),
         None => Ok(None),
     }
 }
 
 /// Whether controllers of a subnetwork of the trace's tier may stand apart.
-pub(crate) fn tier_disjoint(facts: &Facts, ask: &TraceAsk, tier: Option<u8>) -> bool
-    requires { tier ≡ tier_of facts.now ask.now }
-    ensures { result ≡ tier_disjoint facts.now.setup.tiers tier }
+pub(crate) fn tier_disjoint(setup: &Setup, ask: &TraceAsk, tier: Option<u8>) -> bool
+    requires { tier ≡ tier_of setup.now ask.now }
+    ensures { result ≡ tier_disjoint setup.now.tiers tier }
 {
     match tier {
-        Some(tier) => facts.setup().tiers.disjoint(tier),
+        Some(tier) => setup.tiers.disjoint(tier),
         None => false,
     }
 }

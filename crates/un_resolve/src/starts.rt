@@ -2,14 +2,14 @@
 
 ghost use Rattle.std.specs.Prelude.{◌≡◌, ◌≢◌, map, Some, None, IfOk, OnOk, IfErr};
 ghost use Rattle.un_defs.specs.declared.refusal.Refusal.TheVariants.{Memory};
-ghost use Rattle.un_defs.specs.Dues.{first_due};
-ghost use Rattle.un_resolve.specs.Starts.{given_starts, start_node, no_feature, no_start, tier_of, no_tier, controller_ports, no_subnet, start_ports, nodes_of, start_nodes, starts_due};
+ghost use Rattle.un_defs.specs.Refusing.{first_refusal};
+ghost use Rattle.un_resolve.specs.Starts.{given_starts, start_node, no_feature, no_start, tier_of, no_tier, controller_ports, no_subnet, start_ports, nodes_of, start_nodes, starts_refusal};
 
 use crate::kinds::is_subnetwork;
 use std::alloc::{AllocError, Global};
 use un_ask::TraceAsk;
-use un_defs::{Node, Port, Refusal};
-use un_facts::Facts;
+use un_defs::{Directory, Node, Port, Refusal};
+use un_tiers::Setup;
 
 /// The nodes at which a trace starts, and the number of its tier.
 #[derive(Drop)]
@@ -30,19 +30,19 @@ fn given_starts(ask: &TraceAsk) -> &[Port]
 }
 
 /// The node of a port of a live row.
-fn start_node(facts: &Facts, start: Port) -> Option<Node>
-    ensures { result ≡ start_node facts.now.features start }
+fn start_node<D: Directory>(features: &D, start: Port) -> Option<Node>
+    ensures { result ≡ start_node (D.features features.now) start }
 {
-    facts.row(start.feature)?.port_node(start.number)
+    features.row(start.feature)?.port_node(start.number)
 }
 
 /// Refuses the first port whose feature is not live.
-fn check_features(facts: &Facts, ports: &[Port]) -> Result<(), Refusal>
-    ensures good { OnOk result (first_due (map (no_feature facts.now.features) ports.now) ≡ None) }
-    ensures bad { IfErr result (λ r. first_due (map (no_feature facts.now.features) ports.now) ≡ Some r) }
+fn check_features<D: Directory>(features: &D, ports: &[Port]) -> Result<(), Refusal>
+    ensures good { OnOk result (first_refusal (map (no_feature (D.features features.now)) ports.now) ≡ None) }
+    ensures bad { IfErr result (λ r. first_refusal (map (no_feature (D.features features.now)) ports.now) ≡ Some r) }
 {
     for port in ports {
-        if facts.row(port.feature).is_none() {
+        if features.row(port.feature).is_none() {
             return Err(Refusal::NoSuchFeature { id: port.feature });
         }
     }
@@ -50,12 +50,12 @@ fn check_features(facts: &Facts, ports: &[Port]) -> Result<(), Refusal>
 }
 
 /// Refuses the first port that its feature has not.
-fn check_ports(facts: &Facts, ports: &[Port]) -> Result<(), Refusal>
-    ensures good { OnOk result (first_due (map (no_start facts.now.features) ports.now) ≡ None) }
-    ensures bad { IfErr result (λ r. first_due (map (no_start facts.now.features) ports.now) ≡ Some r) }
+fn check_ports<D: Directory>(features: &D, ports: &[Port]) -> Result<(), Refusal>
+    ensures good { OnOk result (first_refusal (map (no_start (D.features features.now)) ports.now) ≡ None) }
+    ensures bad { IfErr result (λ r. first_refusal (map (no_start (D.features features.now)) ports.now) ≡ Some r) }
 {
     for port in ports {
-        if start_node(facts, *port).is_none() {
+        if start_node(features, *port).is_none() {
             return Err(Refusal::NoStart {
                 feature: port.feature,
                 port: port.number,
@@ -66,12 +66,16 @@ fn check_ports(facts: &Facts, ports: &[Port]) -> Result<(), Refusal>
 }
 
 /// The nodes of those of the ports that have one.
-fn nodes_of(alloc: Global, facts: &Facts, ports: &[Port]) -> Result<Vec<Node>, AllocError>
-    ensures { IfOk result (λ nodes. nodes.items ≡ nodes_of facts.now.features ports.now) }
+fn nodes_of<D: Directory>(
+    alloc: Global,
+    features: &D,
+    ports: &[Port],
+) -> Result<Vec<Node>, AllocError>
+    ensures { IfOk result (λ nodes. nodes.items ≡ nodes_of (D.features features.now) ports.now) }
 {
     let mut nodes = Vec::new(alloc);
     for port in ports {
-        if let Some(node) = start_node(facts, *port) {
+        if let Some(node) = start_node(features, *port) {
             nodes.push(node)?;
         }
     }
@@ -79,52 +83,54 @@ fn nodes_of(alloc: Global, facts: &Facts, ports: &[Port]) -> Result<Vec<Node>, A
 }
 
 /// The number of the tier that is asked for, or none where none is.
-fn tier_of(facts: &Facts, ask: &TraceAsk) -> Result<Option<u8>, Refusal>
-    ensures tier { IfOk result (λ tier. tier ≡ tier_of facts.now ask.now) }
-    ensures good { OnOk result (no_tier facts.now ask.now ≡ None) }
-    ensures bad { IfErr result (λ r. no_tier facts.now ask.now ≡ Some r) }
+fn tier_of(setup: &Setup, ask: &TraceAsk) -> Result<Option<u8>, Refusal>
+    ensures tier { IfOk result (λ tier. tier ≡ tier_of setup.now ask.now) }
+    ensures good { OnOk result (no_tier setup.now ask.now ≡ None) }
+    ensures bad { IfErr result (λ r. no_tier setup.now ask.now ≡ Some r) }
 {
     let Some(name) = &ask.tier else {
         return Ok(None);
     };
-    match facts.setup().tiers.find(name.text()) {
+    match setup.tiers.find(name.text()) {
         Some(tier) => Ok(Some(tier)),
         None => Err(Refusal::NoSuchTier),
     }
 }
 
 /// The ports of the controllers of the subnetwork that is asked for.
-fn controller_ports(
+fn controller_ports<D: Directory>(
     alloc: Global,
-    facts: &Facts,
+    setup: &Setup,
+    features: &D,
     ask: &TraceAsk,
     tier: Option<u8>,
 ) -> Result<Vec<Port>, AllocError>
-    requires { tier ≡ tier_of facts.now ask.now }
-    ensures { IfOk result (λ ports. ports.items ≡ controller_ports facts.now ask.now) }
+    requires { tier ≡ tier_of setup.now ask.now }
+    ensures { IfOk result (λ ports. ports.items ≡ controller_ports setup.now (D.features features.now) ask.now) }
 {
     match (tier, &ask.subnet) {
-        (Some(tier), Some(subnet)) => facts.controllers_of(alloc, tier, subnet.text()),
+        (Some(tier), Some(subnet)) => features.controllers_of(alloc, tier, subnet.text()),
         _ => Ok(Vec::new(alloc)),
     }
 }
 
 /// The ports at which the trace starts, given its tier. A subnetwork without a controller is refused.
-fn start_ports(
+fn start_ports<D: Directory>(
     alloc: Global,
-    facts: &Facts,
+    setup: &Setup,
+    features: &D,
     ask: &TraceAsk,
     tier: Option<u8>,
 ) -> Result<Vec<Port>, Refusal>
-    requires { tier ≡ tier_of facts.now ask.now }
-    ensures ports { IfOk result (λ ports. ports.items ≡ start_ports facts.now ask.now) }
-    ensures good { OnOk result (no_subnet facts.now ask.now ≡ None) }
-    ensures bad { IfErr result (λ r. r ≢ Memory → no_subnet facts.now ask.now ≡ Some r) }
+    requires { tier ≡ tier_of setup.now ask.now }
+    ensures ports { IfOk result (λ ports. ports.items ≡ start_ports setup.now (D.features features.now) ask.now) }
+    ensures good { OnOk result (no_subnet setup.now (D.features features.now) ask.now ≡ None) }
+    ensures bad { IfErr result (λ r. r ≢ Memory → no_subnet setup.now (D.features features.now) ask.now ≡ Some r) }
 {
     if !is_subnetwork(ask.kind) {
         return Ok(ask.starts.as_slice().to_vec(alloc)?);
     }
-    let ports = controller_ports(alloc, facts, ask, tier)?;
+    let ports = controller_ports(alloc, setup, features, ask, tier)?;
     if ports.is_empty() {
         return Err(Refusal::NoSuchSubnetwork);
     }
@@ -133,18 +139,23 @@ fn start_ports(
 
 /// The starts of a trace, or the first refusal: the features of all given ports are looked at first, then the tier, then the subnetwork, and
 /// then the given ports.
-pub(crate) fn starts_of(alloc: Global, facts: &Facts, ask: &TraceAsk) -> Result<Starts, Refusal>
-    ensures nodes { IfOk result (λ s. s.nodes.items ≡ start_nodes facts.now ask.now) }
-    ensures tier { IfOk result (λ s. s.tier ≡ tier_of facts.now ask.now) }
-    ensures found { OnOk result (no_tier facts.now ask.now ≡ None) }
-    ensures good { OnOk result (starts_due facts.now ask.now ≡ None) }
-    ensures bad { IfErr result (λ r. r ≢ Memory → starts_due facts.now ask.now ≡ Some r) }
+pub(crate) fn starts_of<D: Directory>(
+    alloc: Global,
+    setup: &Setup,
+    features: &D,
+    ask: &TraceAsk,
+) -> Result<Starts, Refusal>
+    ensures nodes { IfOk result (λ s. s.nodes.items ≡ start_nodes setup.now (D.features features.now) ask.now) }
+    ensures tier { IfOk result (λ s. s.tier ≡ tier_of setup.now ask.now) }
+    ensures found { OnOk result (no_tier setup.now ask.now ≡ None) }
+    ensures good { OnOk result (starts_refusal setup.now (D.features features.now) ask.now ≡ None) }
+    ensures bad { IfErr result (λ r. r ≢ Memory → starts_refusal setup.now (D.features features.now) ask.now ≡ Some r) }
 {
     let given = given_starts(ask);
-    check_features(facts, given)?;
-    let tier = tier_of(facts, ask)?;
-    let ports = start_ports(alloc, facts, ask, tier)?;
-    check_ports(facts, given)?;
-    let nodes = nodes_of(alloc, facts, ports.as_slice())?;
+    check_features(features, given)?;
+    let tier = tier_of(setup, ask)?;
+    let ports = start_ports(alloc, setup, features, ask, tier)?;
+    check_ports(features, given)?;
+    let nodes = nodes_of(alloc, features, ports.as_slice())?;
     Ok(Starts { nodes, tier })
 }

@@ -1,10 +1,12 @@
 //! The call that looks up the names of a trace.
 
-ghost use Rattle.std.specs.Prelude.{◌≡◌, ◌≢◌, Some, None, IsSome, IsTrue, IfOk, OnOk, IfErr};
+ghost use Rattle.std.specs.Prelude.{◌≡◌, ◌≢◌, Contains, Some, None, IsSome, IsTrue, IfOk, OnOk, IfErr};
 ghost use Rattle.un_defs.specs.declared.refusal.Refusal.TheVariants.{Memory};
+ghost use Rattle.un_defs.specs.declared.port.Node.{Node};
+ghost use Rattle.un_defs.specs.Ports.{nodes};
 ghost use Rattle.un_resolve.specs.Kinds.{needs_tier};
 ghost use Rattle.un_resolve.specs.Starts.{tier_of, start_nodes};
-ghost use Rattle.un_resolve.specs.Resolved.{condition_of, barriers_of, resolved, resolving_due};
+ghost use Rattle.un_resolve.specs.Resolved.{condition_of, barriers_of, resolved, resolving_refusal};
 
 use crate::kinds::{is_always_consistent, lacking};
 use crate::names::{Conditions, conditions_of, copy_name, functions, tier_barrier, tier_disjoint};
@@ -13,22 +15,22 @@ use std::alloc::{AllocError, Global};
 use un_ask::{Funcs, TraceAsk, TypedAsk};
 use un_conds::Cond;
 use un_defs::port::{Nodes, Ports};
-use un_defs::{Barriers, Refusal};
-use un_facts::Facts;
+use un_defs::{Barriers, Directory, Refusal};
+use un_tiers::Setup;
 
 /// Where the walks of a trace stop, given its tier and its barrier condition.
 fn barriers(
     alloc: Global,
-    facts: &Facts,
+    setup: &Setup,
     ask: &TraceAsk,
     tier: Option<u8>,
     request: Option<Cond>,
 ) -> Result<Barriers, AllocError>
-    requires tier { tier ≡ tier_of facts.now ask.now }
-    requires request { request ≡ condition_of facts.now.setup.schema ask.now.barriers }
-    ensures { IfOk result (λ barriers. barriers ≡ barriers_of facts.now ask.now) }
+    requires tier { tier ≡ tier_of setup.now ask.now }
+    requires request { request ≡ condition_of setup.now.schema ask.now.barriers }
+    ensures { IfOk result (λ barriers. barriers ≡ barriers_of setup.now ask.now) }
 {
-    let of_tier = tier_barrier(alloc, facts, ask, tier)?;
+    let of_tier = tier_barrier(alloc, setup, ask, tier)?;
     let stops = ask.stops.as_slice().to_vec(alloc)?;
     Ok(Barriers {
         request,
@@ -40,30 +42,31 @@ fn barriers(
 }
 
 /// The trace, given its starts and its conditions.
-fn built(
+fn built<D: Directory>(
     alloc: Global,
-    facts: &Facts,
+    setup: &Setup,
+    features: &D,
     ask: &TraceAsk,
     starts: Starts,
     conditions: Conditions,
 ) -> Result<TypedAsk, AllocError>
-    requires nodes { starts.nodes.items ≡ start_nodes facts.now ask.now }
-    requires tier { starts.tier ≡ tier_of facts.now ask.now }
-    requires isolators { conditions.isolators ≡ condition_of facts.now.setup.schema ask.now.isolators }
-    requires barriers { conditions.barriers ≡ condition_of facts.now.setup.schema ask.now.barriers }
-    ensures { IfOk result (λ typed. typed ≡ resolved facts.now ask.now) }
+    requires nodes { starts.nodes.items ≡ start_nodes setup.now (D.features features.now) ask.now }
+    requires tier { starts.tier ≡ tier_of setup.now ask.now }
+    requires isolators { conditions.isolators ≡ condition_of setup.now.schema ask.now.isolators }
+    requires barriers { conditions.barriers ≡ condition_of setup.now.schema ask.now.barriers }
+    ensures { IfOk result (λ typed. typed ≡ resolved setup.now (D.features features.now) ask.now) }
 {
     let Starts { nodes, tier } = starts;
-    let barriers = barriers(alloc, facts, ask, tier, conditions.barriers)?;
+    let barriers = barriers(alloc, setup, ask, tier, conditions.barriers)?;
     let subnet = copy_name(alloc, &ask.subnet)?;
-    let functions = functions(alloc, facts.schema(), ask.functions.as_slice())?;
+    let functions = functions(alloc, &setup.schema, ask.functions.as_slice())?;
     Ok(TypedAsk {
         kind: ask.kind,
         starts: Nodes::new(nodes),
         barriers,
         isolators: conditions.isolators,
         subnet,
-        disjoint: tier_disjoint(facts, ask, tier),
+        disjoint: tier_disjoint(setup, ask, tier),
         include: ask.include,
         functions: Funcs::new(functions),
     })
@@ -76,18 +79,25 @@ fn built(
 /// `NoStart` for the first given start that its feature has not; `BadCondition` for the isolating devices, and then for the barriers. It
 /// answers `Memory` only for want of memory.
 #[tactic(auto, using(crate::proofs::Tiers::has_tier))]
-pub fn resolve(alloc: Global, facts: &Facts, ask: &TraceAsk) -> Result<TypedAsk, Refusal>
-    ensures typed { IfOk result (λ typed. typed ≡ resolved facts.now ask.now) }
-    ensures good { OnOk result (resolving_due facts.now ask.now ≡ None) }
+pub fn resolve<D: Directory>(
+    alloc: Global,
+    setup: &Setup,
+    features: &D,
+    ask: &TraceAsk,
+) -> Result<TypedAsk, Refusal>
+    ensures typed { IfOk result (λ typed. typed ≡ resolved setup.now (D.features features.now) ask.now) }
+    // Each start is a node of the features.
+    ensures starts { OnOk result ((n : Node) → Contains (start_nodes setup.now (D.features features.now) ask.now) n → Contains (nodes (D.features features.now)) n) }
+    ensures good { OnOk result (resolving_refusal setup.now (D.features features.now) ask.now ≡ None) }
     // A trace that walks in a tier has one.
-    ensures tier { OnOk result (IsTrue (needs_tier ask.now.kind) → IsSome (tier_of facts.now ask.now)) }
-    ensures bad { IfErr result (λ r. r ≢ Memory → resolving_due facts.now ask.now ≡ Some r) }
+    ensures tier { OnOk result (IsTrue (needs_tier ask.now.kind) → IsSome (tier_of setup.now ask.now)) }
+    ensures bad { IfErr result (λ r. r ≢ Memory → resolving_refusal setup.now (D.features features.now) ask.now ≡ Some r) }
 {
     if let Some(refusal) = lacking(ask) {
         return Err(refusal);
     }
-    let starts = starts_of(alloc, facts, ask)?;
-    let conditions = conditions_of(alloc, facts.schema(), ask)?;
-    let typed = built(alloc, facts, ask, starts, conditions)?;
+    let starts = starts_of(alloc, setup, features, ask)?;
+    let conditions = conditions_of(alloc, &setup.schema, ask)?;
+    let typed = built(alloc, setup, features, ask, starts, conditions)?;
     Ok(typed)
 }

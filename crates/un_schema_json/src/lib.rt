@@ -10,8 +10,6 @@ mod list;
 mod members;
 mod rule;
 mod source;
-#[cfg(test)]
-mod tests;
 mod tier;
 
 pub use line::read_schema;

@@ -75,7 +75,7 @@ module _ (laws : Headline) where
   lines_so read out served = record { is_due = served.is_due ∙ laws.same_due read false out; first_is = λ e. served.first_is (laws.same_first read false ∙ e) }
 
   cut_so : (read : List ℕ) (ended : Bool) (out : List ℕ) → IsCutShort script read ended out → IsCutShort by_history read ended out
-  cut_so read ended out cut = record { front = (cut.front.0, cut.front.1 ∙ laws.same_due read ended (out ++ cut.front.0)); more = cut.more }
+  cut_so read ended out cut = record { prefix = (cut.prefix.0, cut.prefix.1 ∙ laws.same_due read ended (out ++ cut.prefix.0)); more = cut.more }
 
   -- the sink has failed
   pub cuts_so : (read out : List ℕ) (left : Option (List ℕ)) → IsCutShort script read true out × (IsCutShort script read false out ⊎ IsAtEnd left)

@@ -6,7 +6,7 @@ use Rattle.un_defs.specs.declared.refusal.Refusal.TheVariants as refusal
 use Rattle.un_ask.specs.declared.request.Command.TheVariants as command
 use Rattle.un_ask.specs.declared.request.Request.TheVariants.{Command}
 use Rattle.un_ask.specs.declared.reply.Reply.TheVariants as reply
-use Rattle.un_facts.specs.declared.setup.Setup.{Setup}
+use Rattle.un_tiers.specs.declared.setup.Setup.{Setup}
 use Rattle.un_script.specs.History.{History, history_behind_line, reply_after_line}
 
 abbrev opening : Setup → History

@@ -13,7 +13,7 @@ use Rattle.un_ask.specs.declared.reply.Reply.{Reply}
 use Rattle.un_json.specs.declared.fault.ReadFault.{ReadFault}
 use Rattle.un_json.specs.Requests.{ask}
 use Rattle.un_replies.specs.Replies.{print}
-use Rattle.un_facts.specs.declared.setup.Setup.{Setup}
+use Rattle.un_tiers.specs.declared.setup.Setup.{Setup}
 use Rattle.un_core.specs.State.{State}
 use Rattle.un_core.specs.Requests.{reply_after, history_behind, IsFaithful}
 use Rattle.un_script.specs.Script.{script, setup_of, fault_reply}

@@ -18,7 +18,7 @@ use Rattle.un_json.specs.declared.fault.ReadFault.{ReadFault}
 use Rattle.un_json.specs.declared.fault.ReadFault.TheVariants.{NotJson, BadRequest, Memory}
 use Rattle.un_json.specs.Requests.{ask}
 use Rattle.un_replies.specs.Replies.{print}
-use Rattle.un_facts.specs.declared.setup.Setup.{Setup}
+use Rattle.un_tiers.specs.declared.setup.Setup.{Setup}
 use Rattle.un_core.specs.State.{State, opening}
 use Rattle.un_core.specs.Requests.{reply_to, state_behind}
 

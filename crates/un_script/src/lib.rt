@@ -6,6 +6,3 @@ mod laws;
 mod run;
 
 pub use run::run_script;
-
-#[cfg(test)]
-mod tests;

@@ -11,7 +11,7 @@ use Rattle.un_defs.proofs.Unique.{port_same}
 use Rattle.un_star.specs.declared.meet.Joint.{Joint}
 use Rattle.un_star.specs.declared.meet.End.{End}
 use Rattle.un_star.specs.declared.meet.Group.{Group}
-use Rattle.un_star.specs.Meet.{noted, again, passes_group, passes_by, has_chosen_by, joins_by, chosen_by, TakesIn, AreGroups}
+use Rattle.un_star.specs.Meet.{noted, with_port, passes_group, passes_by, has_chosen_by, joins_by, chosen_by, TakesIn, AreGroups}
 
 -- ---- tests
 
@@ -57,7 +57,7 @@ module _ (rules : List Rule) (j : Joint) (e : End) where
   any_noted [] kind terminal q = or_false ((not (same_port e.port q) || false) && through rules j.kind (e.kind, chosen_by e j) (kind, terminal)) ∙ ap (λ b. b && through rules j.kind (e.kind, chosen_by e j) (kind, terminal)) (or_false (not (same_port e.port q)))
   any_noted (g ∷ gs) kind terminal q =
       elim ((g.kind == kind) && (g.terminal == terminal)) as (λ b. ((g.kind == kind) && (g.terminal == terminal)) ≡ b
-      → list_any (passes_group rules j e) (if b then again g q ∷ gs else g ∷ noted gs kind terminal q)
+      → list_any (passes_group rules j e) (if b then with_port g q ∷ gs else g ∷ noted gs kind terminal q)
       ≡ (list_any (passes_group rules j e) (g ∷ gs) || (not (same_port e.port q) && through rules j.kind (e.kind, chosen_by e j) (kind, terminal)))) [
         | true ↦ λ t.
             let parts = both_true (g.kind == kind) (g.terminal == terminal) t in
@@ -95,7 +95,7 @@ groups_step rules j ends i f old new below is groups takes e =
 
 -- the group at a place, of the end's kind and terminal, takes the end
 pub noted_there : (gs : List Group) (i : ℕ) (g h : Group) (kind terminal : ℕ) (q : Port) → i < length gs → g ≡ get_or gs i g
-    → noted gs kind terminal q ≡ take i gs ++ noted (drop i gs) kind terminal q → g.kind ≡ kind → g.terminal ≡ terminal → h ≡ again g q
+    → noted gs kind terminal q ≡ take i gs ++ noted (drop i gs) kind terminal q → g.kind ≡ kind → g.terminal ≡ terminal → h ≡ with_port g q
     → set gs i h ≡ noted gs kind terminal q
 noted_there gs i g h kind terminal q below is others kinds terminals more =
     set_split gs i h below
@@ -107,8 +107,8 @@ noted_there gs i g h kind terminal q below is others kinds terminals more =
     same : ((g.kind == kind) && (g.terminal == terminal)) ≡ true
     same = true_both (g.kind == kind) (g.terminal == terminal) (eq-eqb g.kind kind kinds) (eq-eqb g.terminal terminal terminals)
 
-    taken : (rest : List Group) → noted (g ∷ rest) kind terminal q ≡ again g q ∷ rest
-    taken rest = λ k. if same k then again g q ∷ rest else g ∷ noted rest kind terminal q
+    taken : (rest : List Group) → noted (g ∷ rest) kind terminal q ≡ with_port g q ∷ rest
+    taken rest = λ k. if same k then with_port g q ∷ rest else g ∷ noted rest kind terminal q
 
 -- where no junction-edge rule allows the end, the groups tell
 pub joins_by_groups : (rules : List Rule) (j : Joint) (ends : List End) (e : End) (groups : List Group) → has_chosen_by j e ≡ true → edge rules j.kind (chosen_by e j) e.kind ≡ false

@@ -93,13 +93,13 @@ pub record IsMeeting (S : Catalog) (F : Features) (m : Meeting) : Type 0 where
   pub grouped : (j : Joint) → only m.joints.items ≡ Some j → AreGroups S.rules j m.ends.items m.groups.items
 
 -- the group with one more end
-abbrev pub again : Group → Port → Group
-again g port = record { kind = g.kind; terminal = g.terminal; first = g.first; several = g.several || not (same_port g.first port) }
+abbrev pub with_port : Group → Port → Group
+with_port g port = record { kind = g.kind; terminal = g.terminal; first = g.first; several = g.several || not (same_port g.first port) }
 
 -- the groups with one more end: in the first group of its kind and terminal, or in a new one
 abbrev pub noted : List Group → ℕ → ℕ → Port → List Group
 noted [] kind terminal port = record { kind = kind; terminal = terminal; first = port; several = false } ∷ []
 noted (g ∷ gs) kind terminal port =
     if (g.kind == kind) && (g.terminal == terminal)
-    then again g port ∷ gs
+    then with_port g port ∷ gs
     else g ∷ noted gs kind terminal port

@@ -5,7 +5,7 @@ ghost use Rattle.un_schema.specs.declared.rule.Rule.{Rule};
 ghost use Rattle.std.specs.List.{list_any};
 ghost use Rattle.un_schema.specs.Catalog.{any_vertex};
 ghost use Rattle.un_defs.specs.Links.{only};
-ghost use Rattle.un_star.specs.Meet.{joint_here, joints_here, end_here, ends_here, chosen_by, has_chosen_by, joins_by, noted, passes_group, TakesIn, AreGroups, IsMeeting, again};
+ghost use Rattle.un_star.specs.Meet.{joint_here, joints_here, end_here, ends_here, chosen_by, has_chosen_by, joins_by, noted, passes_group, TakesIn, AreGroups, IsMeeting, with_port};
 
 use std::alloc::{AllocError, Global};
 use un_defs::ports::is_joint;
@@ -154,8 +154,8 @@ pub(crate) fn only(joints: &[Joint]) -> Option<Joint>
 }
 
 /// The group with one more end.
-fn again(group: &Group, port: Port) -> Group
-    ensures { result ≡ again group.now port }
+fn with_port(group: &Group, port: Port) -> Group
+    ensures { result ≡ with_port group.now port }
 {
     Group {
         kind: group.kind,
@@ -172,7 +172,7 @@ fn note(groups: &mut Vec<Group>, kind: u16, terminal: u8, port: Port) -> Result<
     for place in 0..groups.len() {
         let group = groups[place];
         if group.kind == kind && group.terminal == terminal {
-            groups[place] = again(&group, port);
+            groups[place] = with_port(&group, port);
             return Ok(());
         }
     }

@@ -12,14 +12,14 @@ use Rattle.un_defs.specs.declared.edit.Edit.TheVariants as edit
 use Rattle.un_defs.specs.declared.refusal.Refusal.{Refusal}
 use Rattle.un_defs.specs.declared.refusal.Refusal.TheVariants as refusal
 use Rattle.un_defs.specs.Sound.{least_points, most_points}
-use Rattle.un_store.specs.Refusals.{first_due, no_kind, of_kind, not_plain, bad_shape}
+use Rattle.un_store.specs.Refusals.{first_refusal, no_kind, of_kind, not_plain, bad_shape}
 use Rattle.un_store.specs.Fitting.{InsertFitsLaw}
 use Rattle.un_store.proofs.Makings.{new_fits, all_at, some_at}
 
 -- where nothing is due, nothing is due of the first, nor of those behind it
-pub none_due : (d : Option Refusal) (ds : List (Option Refusal)) → first_due (d ∷ ds) ≡ None → (d ≡ None) × (first_due ds ≡ None)
-none_due None ds e = (refl, e)
-none_due (Some r) ds e = let none : Some r ≡ None = e in cc
+pub none_refused : (d : Option Refusal) (ds : List (Option Refusal)) → first_refusal (d ∷ ds) ≡ None → (d ≡ None) × (first_refusal ds ≡ None)
+none_refused None ds e = (refl, e)
+none_refused (Some r) ds e = let none : Some r ≡ None = e in cc
 
 -- ---- the configuration of a kind
 
@@ -56,13 +56,13 @@ pub shape_count : (class : Class) (points : List (List ℤ)) → bad_shape class
 shape_count class points e = good_count (least_points class) (most_points class) points (good_places (bad_place (least_points class) (most_points class) points) e)
 
 pub insert_fits : InsertFitsLaw
-insert_fits S id moment rows (edit.Insert name points attrs flow ends note) is word due = λ k named kind at.
-    let behind_name = none_due (no_kind S name) _ due in
-    let behind_plain = none_due (of_kind S name (λ k. not_plain k.class flow ends)) _ behind_name.1 in
-    let shape = none_due (of_kind S name (λ k. bad_shape k.class points)) _ behind_plain.1 in
+insert_fits S id moment rows (edit.Insert name points attrs flow ends note) is word cause = λ k named kind at.
+    let behind_name = none_refused (no_kind S name) _ cause in
+    let behind_plain = none_refused (of_kind S name (λ k. not_plain k.class flow ends)) _ behind_name.1 in
+    let shape = none_refused (of_kind S name (λ k. bad_shape k.class points)) _ behind_plain.1 in
     let of_kind_is : of_kind S name (λ k. bad_shape k.class points) ≡ bad_shape kind.class points =
     ap (option_and_then (λ k. option_and_then (λ k. bad_shape k.class points) (kind_at S k))) named ∙ ap (option_and_then (λ k. bad_shape k.class points)) at in
     let count = shape_count kind.class points (sym of_kind_is ∙ shape.0) in
     let config = config_is S is k in
     new_fits S id moment name points attrs flow ends note k kind named at (some_terminals (config_of S k) config) (has_first (config_of S k) config) count.0 count.1 k named kind at
-insert_fits S id moment rows _ is word due = absurd word
+insert_fits S id moment rows _ is word cause = absurd word

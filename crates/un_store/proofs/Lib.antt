@@ -1,5 +1,5 @@
 pub mod Held
-pub mod Dues
+pub mod FirstRefusal
 pub mod Makings
 mod Samples
 pub mod Fitting

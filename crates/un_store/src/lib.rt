@@ -16,7 +16,5 @@ pub mod insert;
 pub mod laws;
 mod parts;
 pub mod store;
-#[cfg(test)]
-mod tests;
 
 pub use store::Store;

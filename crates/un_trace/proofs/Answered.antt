@@ -12,7 +12,7 @@ use Rattle.un_defs.proofs.Members.{contains_from_among, among_from_contains}
 use Rattle.un_ask.specs.declared.trace.TraceKind.{TraceKind}
 use Rattle.un_ask.specs.declared.trace.TraceKind.TheVariants.{Connected, Subnetwork, Controllers as ControllersKind, Upstream, Downstream, Loops as LoopsKind, Isolation as IsolationKind}
 use Rattle.un_ask.specs.declared.typed.TypedAsk.{TypedAsk}
-use Rattle.un_trace.specs.Told.{MayTell, tells_controllers, told_nodes}
+use Rattle.un_trace.specs.TraceReply.{IsAnswerable, lists_controllers, nodes_in_result}
 
 pub reach_unique : (step : Node → Node → Bool) (starts xs ys : List Node) → IsReach step starts xs → IsReach step starts ys → xs ≡ ys
 reach_unique step starts xs ys a b =
@@ -21,7 +21,7 @@ reach_unique step starts xs ys a b =
     (λ n h. among_from_contains xs n ((a.exact n).1 ((b.exact n).0 (contains_from_among ys n h))))
 
 -- a trace that tells controllers has a tier
-pub has_tier : (k : TraceKind) (tier : Option ℕ) → MayTell k tier → tells_controllers k ≡ true → IsSome tier
+pub has_tier : (k : TraceKind) (tier : Option ℕ) → IsAnswerable k tier → lists_controllers k ≡ true → IsSome tier
 has_tier Connected tier h e = absurd (true≢false (sym e))
 has_tier Subnetwork tier h e = absurd (true≢false (sym e))
 has_tier ControllersKind tier h e = h
@@ -30,5 +30,5 @@ has_tier Downstream tier h e = absurd (true≢false (sym e))
 has_tier LoopsKind tier h e = absurd h
 has_tier IsolationKind tier h e = absurd h
 
-pub told_sorted : (G : Ground) (ask : TypedAsk) (reached : List Node) → IsStrictlySortedBy node_cmp reached → IsStrictlySortedBy node_cmp (told_nodes G ask reached)
-told_sorted G ask reached sorted = IsStrictlySortedBy-filter node_cmp _ reached sorted
+pub result_sorted : (G : Ground) (ask : TypedAsk) (reached : List Node) → IsStrictlySortedBy node_cmp reached → IsStrictlySortedBy node_cmp (nodes_in_result G ask reached)
+result_sorted G ask reached sorted = IsStrictlySortedBy-filter node_cmp _ reached sorted

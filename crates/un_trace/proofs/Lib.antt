@@ -1,6 +1,6 @@
 pub mod Runs
 pub mod Rise
-pub mod Told
+pub mod SeenParts
 pub mod Turn
 pub mod Firsts
 pub mod Sums

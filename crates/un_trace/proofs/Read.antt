@@ -21,7 +21,7 @@ use Rattle.un_trace.specs.declared.included.Inclusion.TheVariants.{Containers, C
 use Rattle.un_trace.specs.Seen.{node_of, nodes_of, spot_of, spots_of, of_feature, first_spot}
 use Rattle.un_trace.specs.Included.{ids_of}
 use Rattle.un_trace.specs.Functions.{values_of, total_of}
-use Rattle.un_trace.specs.Told.{total, parts, part_of}
+use Rattle.un_trace.specs.TraceReply.{total, parts, part_of}
 
 abbrev head_of : List (Option Spot) → Option Spot
 head_of [] = None

@@ -17,7 +17,7 @@ use Rattle.un_trace.specs.declared.included.Inclusion.TheVariants.{Containers, C
 use Rattle.un_trace.specs.Seen.{nodes_of, spot_of, spots_of, first_spot}
 use Rattle.un_trace.specs.Included.{ids_of}
 use Rattle.un_trace.specs.Functions.{total_of}
-use Rattle.un_trace.specs.Told.{where_asked, parts, total, result_of, told_nodes, told_clean, told_over, mode_of, IsAnswer}
+use Rattle.un_trace.specs.TraceReply.{where_asked, parts, total, result_of, nodes_in_result, clean_reply, reply_given_dirt, mode_of, IsAnswer}
 use Rattle.un_trace.proofs.Read.{each_entry, containers_are, contents_are, structures_are, totals_are, parts_count}
 
 abbrev pub reply_with : List ℕ → List ℕ → List Part → List (Option ℤ) → TraceKind → List ℕ → ResultReply
@@ -25,10 +25,10 @@ reply_with containers content features functions kind structures =
     record { containers = containers; content = content; features = features; functions = functions; kind = kind; structures = structures }
 
 -- what the code told of the seen nodes
-pub record WasTold (G : Ground) (ask : TypedAsk) (reached : List Node) (seen : List Seen) (reply : ResultReply) : Type 0 where
+pub record IsReadFrom (G : Ground) (ask : TypedAsk) (reached : List Node) (seen : List Seen) (reply : ResultReply) : Type 0 where
   pub firsts : List Spot
   pub count : ℕ
-  pub nodes : nodes_of seen ≡ told_nodes G ask reached
+  pub nodes : nodes_of seen ≡ nodes_in_result G ask reached
   pub entries : map spot_of seen ≡ map (entry G) (nodes_of seen)
   pub firsts_are : firsts ≡ filter_map (first_spot seen) (feature_ids (nodes_of seen))
   pub features : reply.features ≡ parts (nodes_of seen)
@@ -39,7 +39,7 @@ pub record WasTold (G : Ground) (ask : TypedAsk) (reached : List Node) (seen : L
   pub structures : reply.structures ≡ where_asked ask.include.structures (rising nat_cmp (flat_map (ids_of Structures) (spots_of seen)))
   pub kind : reply.kind ≡ ask.kind
 
-pub result_is : (G : Ground) (ask : TypedAsk) (reached : List Node) (seen : List Seen) (reply : ResultReply) → WasTold G ask reached seen reply → reply ≡ result_of G ask (told_nodes G ask reached)
+pub result_is : (G : Ground) (ask : TypedAsk) (reached : List Node) (seen : List Seen) (reply : ResultReply) → IsReadFrom G ask reached seen reply → reply ≡ result_of G ask (nodes_in_result G ask reached)
 result_is G ask reached seen reply w =
     let each = each_entry G seen w.entries in
     let containers : reply.containers ≡ where_asked ask.include.containers (result_containers G (nodes_of seen)) =
@@ -51,9 +51,9 @@ result_is G ask reached seen reply w =
     let functions : reply.functions ≡ map (total G (nodes_of seen)) ask.functions =
     w.functions ∙ ap (λ fs. map (total_of fs w.count) ask.functions) w.firsts_are
     ∙ totals_are G seen each w.count (w.counted ∙ parts_count (nodes_of seen)) ask.functions in
-    let told : reply ≡ result_of G ask (nodes_of seen) =
+    let trace_reply : reply ≡ result_of G ask (nodes_of seen) =
     λ i. reply_with (containers i) (content i) (w.features i) (functions i) (w.kind i) (structures i) in
-    told ∙ ap (result_of G ask) w.nodes
+    trace_reply ∙ ap (result_of G ask) w.nodes
 
 pub on_ok_map : {T E : Type 0} (r : Result T E) (P Q : Type 0) → (P → Q) → OnOk r P → OnOk r Q
 on_ok_map (Ok x) P Q f h = f h
@@ -65,6 +65,6 @@ if_ok_map (Err e) P Q f h = h
 
 -- an answer where no dirt matters
 pub answers_clean : (G : Ground) (ask : TypedAsk) (nodes : List Node) → IsReach (leads G ask.barriers (mode_of ask.kind)) ask.starts nodes
-    → None ≡ (if ask.barriers.consistent then dirt G nodes else None) → (reply : Reply) → reply ≡ told_clean G ask nodes → IsAnswer G ask reply
+    → None ≡ (if ask.barriers.consistent then dirt G nodes else None) → (reply : Reply) → reply ≡ clean_reply G ask nodes → IsAnswer G ask reply
 answers_clean G ask nodes reach clean reply is =
-    record { reached = nodes; reach = reach; is = is ∙ ap (λ o. told_over o G ask nodes) clean }
+    record { reached = nodes; reach = reach; is = is ∙ ap (λ o. reply_given_dirt o G ask nodes) clean }

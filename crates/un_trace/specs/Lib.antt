@@ -2,4 +2,4 @@ pub mod Seen
 pub mod Included
 pub mod Functions
 pub mod Controlled
-pub mod Told
+pub mod TraceReply

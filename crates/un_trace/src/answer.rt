@@ -9,7 +9,7 @@ ghost use Rattle.un_defs.specs.Reach.{IsReach, leads};
 ghost use Rattle.un_walk.specs.Ticks.{IsLookedUpOnce};
 ghost use Rattle.un_trace.specs.Seen.{spots_of};
 ghost use Rattle.un_trace.specs.Included.{ids_of};
-ghost use Rattle.un_trace.specs.Told.{MayTell, IsAnswer, mode_of, where_asked, result_of, told_nodes, tells_controllers, controllers_reply, result_reply, told_clean, refused_by};
+ghost use Rattle.un_trace.specs.TraceReply.{IsAnswerable, IsAnswer, mode_of, where_asked, result_of, nodes_in_result, lists_controllers, controllers_reply, result_reply, clean_reply};
 
 use crate::controllers::controllers_of;
 use crate::features::{Features, features_of};
@@ -17,7 +17,7 @@ use crate::functions::totals;
 use crate::included::{Inclusion, included};
 use crate::nodes::{Seen, seen_nodes};
 use std::alloc::{AllocError, Global};
-use un_ask::{Parts, Refusal, Reply, ResultReply, TraceKind, TypedAsk};
+use un_ask::{Parts, Reply, ResultReply, TraceKind, TypedAsk};
 use un_defs::{Barriers, Dirt, Ground, Ids, Mode, Node};
 use un_steps::Steps;
 use un_walk::reach;
@@ -41,20 +41,6 @@ fn dirt_that_matters(barriers: &Barriers, dirt: Option<Dirt>) -> Option<Dirt>
     ensures { result ≡ (if barriers.now.consistent then dirt else None) }
 {
     if barriers.consistent { dirt } else { None }
-}
-
-fn refused_by(dirt: Dirt) -> Reply
-    ensures { result ≡ refused_by dirt }
-{
-    Reply::Refused {
-        refusal: Refusal::DirtyGround {
-            area: dirt.area,
-            feature: dirt.port.feature,
-            port: dirt.port.number,
-        },
-        edit: None,
-        version: 0,
-    }
 }
 
 /// The ids that the entries give where they are asked for, and else none.
@@ -83,8 +69,8 @@ fn result_of<G: Ground, L>(
     steps: &mut Steps<L>,
 ) -> Result<ResultReply, AllocError>
     requires { IsStrictlySortedBy node_cmp reached.now }
-    ensures told { IfOk result (λ r. r ≡ result_of (G.stars_and_areas over.now) ask.now
-        (told_nodes (G.stars_and_areas over.now) ask.now reached.now)) }
+    ensures reply { IfOk result (λ r. r ≡ result_of (G.stars_and_areas over.now) ask.now
+        (nodes_in_result (G.stars_and_areas over.now) ask.now reached.now)) }
     ensures ticks { OnOk result (steps.new ≡ steps.old + length reached.now) }
     ensures never_falls { steps.old ≤ steps.new }
 {
@@ -119,8 +105,8 @@ fn result_of<G: Ground, L>(
     })
 }
 
-fn tells_controllers(kind: TraceKind) -> bool
-    ensures { result ≡ tells_controllers kind }
+fn lists_controllers(kind: TraceKind) -> bool
+    ensures { result ≡ lists_controllers kind }
 {
     matches!(kind, TraceKind::Controllers)
 }
@@ -133,7 +119,7 @@ fn controllers_reply<G: Ground, L>(
     steps: &mut Steps<L>,
 ) -> Result<Reply, AllocError>
     requires { IsSome ask.now.barriers.tier }
-    ensures told { IfOk result (λ r. r ≡ controllers_reply (G.stars_and_areas over.now) ask.now reached.now) }
+    ensures reply { IfOk result (λ r. r ≡ controllers_reply (G.stars_and_areas over.now) ask.now reached.now) }
     ensures ticks { OnOk result (steps.new ≡ steps.old + length reached.now) }
     ensures never_falls { steps.old ≤ steps.new }
 {
@@ -155,7 +141,7 @@ fn result_reply<G: Ground, L>(
     steps: &mut Steps<L>,
 ) -> Result<Reply, AllocError>
     requires { IsStrictlySortedBy node_cmp reached.now }
-    ensures told { IfOk result (λ r. r ≡ result_reply (G.stars_and_areas over.now) ask.now reached.now) }
+    ensures reply { IfOk result (λ r. r ≡ result_reply (G.stars_and_areas over.now) ask.now reached.now) }
     ensures ticks { OnOk result (steps.new ≡ steps.old + length reached.now) }
     ensures never_falls { steps.old ≤ steps.new }
 {
@@ -164,20 +150,20 @@ fn result_reply<G: Ground, L>(
 }
 
 /// The answer of a trace that reached these nodes, where no dirt matters.
-fn told_clean<G: Ground, L>(
+fn clean_reply<G: Ground, L>(
     alloc: Global,
     over: &G,
     ask: &TypedAsk,
     reached: &[Node],
     steps: &mut Steps<L>,
 ) -> Result<Reply, AllocError>
-    requires kind { MayTell ask.now.kind ask.now.barriers.tier }
+    requires kind { IsAnswerable ask.now.kind ask.now.barriers.tier }
     requires sorted { IsStrictlySortedBy node_cmp reached.now }
-    ensures told { IfOk result (λ r. r ≡ told_clean (G.stars_and_areas over.now) ask.now reached.now) }
+    ensures reply { IfOk result (λ r. r ≡ clean_reply (G.stars_and_areas over.now) ask.now reached.now) }
     ensures ticks { OnOk result (steps.new ≡ steps.old + length reached.now) }
     ensures never_falls { steps.old ≤ steps.new }
 {
-    if tells_controllers(ask.kind) {
+    if lists_controllers(ask.kind) {
         controllers_reply(alloc, over, ask, reached, steps)
     } else {
         result_reply(alloc, over, ask, reached, steps)
@@ -195,7 +181,7 @@ pub fn trace<G: Ground, L>(
     ask: &TypedAsk,
     steps: &mut Steps<L>,
 ) -> Result<Reply, AllocError>
-    requires { MayTell ask.now.kind ask.now.barriers.tier }
+    requires { IsAnswerable ask.now.kind ask.now.barriers.tier }
     // The reply is told of exactly the nodes in which a walk from a start ends: a refusal where dirt matters, and else what was asked for.
     ensures answer { IfOk result (IsAnswer (G.stars_and_areas over.now) ask.now) }
 
@@ -216,7 +202,7 @@ pub fn trace<G: Ground, L>(
         steps,
     )?;
     match dirt_that_matters(&ask.barriers, reached.dirt) {
-        Some(dirt) => Ok(refused_by(dirt)),
-        None => told_clean(alloc, over, ask, reached.nodes.as_slice(), steps),
+        Some(dirt) => Ok(Reply::on_dirty_ground(dirt)),
+        None => clean_reply(alloc, over, ask, reached.nodes.as_slice(), steps),
     }
 }

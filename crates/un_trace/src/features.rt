@@ -9,7 +9,7 @@ ghost use Rattle.std.specs.Map.Iter.{deref};
 ghost use Rattle.un_defs.specs.Orders.{rising, node_cmp};
 ghost use Rattle.un_defs.specs.Result.{feature_ids};
 ghost use Rattle.un_trace.specs.Seen.{nodes_of, spots_of, first_spot};
-ghost use Rattle.un_trace.specs.Told.{parts};
+ghost use Rattle.un_trace.specs.TraceReply.{parts};
 
 use crate::nodes::Seen;
 use std::alloc::{AllocError, Global};
@@ -75,8 +75,8 @@ fn first_entry<'a>(run: &[Seen<'a>]) -> Option<&'a Spot>
 /// The features of the nodes, which rise by their ports, so those of a feature stand together.
 pub(crate) fn features_of<'a>(alloc: Global, seen: &[Seen<'a>]) -> Result<Features<'a>, AllocError>
     requires { IsStrictlySortedBy node_cmp (nodes_of seen.now) }
-    ensures parts { IfOk result (λ told. told.parts.items ≡ parts (nodes_of seen.now)) }
-    ensures firsts { IfOk result (λ told. map deref told.firsts.items
+    ensures parts { IfOk result (λ found. found.parts.items ≡ parts (nodes_of seen.now)) }
+    ensures firsts { IfOk result (λ trace_reply. map deref trace_reply.firsts.items
         ≡ filter_map (first_spot seen.now) (feature_ids (nodes_of seen.now))) }
 {
     let mut features = Features {

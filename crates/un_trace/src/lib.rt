@@ -43,6 +43,3 @@ mod included;
 mod nodes;
 
 pub use answer::trace;
-
-#[cfg(test)]
-mod tests;

@@ -3,3 +3,4 @@ pub mod Growing
 pub mod LinkTests
 pub mod Walked
 pub mod DirtMet
+pub mod Spreading

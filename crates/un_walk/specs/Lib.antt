@@ -3,3 +3,4 @@ pub mod EachOnce
 pub mod Entries
 pub mod Growth
 pub mod Ticks
+pub mod Spread

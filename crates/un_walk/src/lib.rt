@@ -40,11 +40,8 @@ pub mod barriers;
 mod dirt;
 mod entries;
 mod found;
+mod traversal;
 pub mod walk;
-mod ways;
 
 pub use barriers::entry_unless_barrier;
 pub use walk::{Reached, reach};
-
-#[cfg(test)]
-mod tests;

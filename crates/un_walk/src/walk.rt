@@ -10,7 +10,7 @@ ghost use Rattle.un_walk.specs.Ticks.{IsLookedUpOnce};
 
 use crate::dirt::dirt_after;
 use crate::found::Found;
-use crate::ways::{Place, follow};
+use crate::traversal::{Place, follow};
 use std::alloc::{AllocError, Global};
 use un_defs::port::Nodes;
 use un_defs::{Barriers, Dirt, Ground, Mode, Node};

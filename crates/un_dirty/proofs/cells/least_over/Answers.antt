@@ -1,6 +1,6 @@
 use Rattle.std.proofs.Common.{◌≡◌, true, IfSome, sym, subst}
 use Rattle.un_dirty.specs.Cells.{is_in, cell_at, covers_at, IsAtMost}
-use Rattle.un_dirty.proofs.Shown.{one_more}
+use Rattle.un_dirty.proofs.Indexed.{one_more}
 use Rattle.un_dirty.proofs.Least.{lesser_sound, lesser_first, lesser_second}
 use Rattle.un_dirty.proofs.cells.least_over.Goals as goal
 

@@ -2,7 +2,7 @@ use Rattle.std.proofs.Common.{◌≡◌, true, sym, subst, ap, ◌∙◌}
 use Rattle.std.specs.Ordering.{nat_cmp}
 use Rattle.std.specs.BTreeMap.{insert_entry}
 use Rattle.un_dirty.specs.Cells.{is_in}
-use Rattle.un_dirty.proofs.Shown.{number_put, kept_put}
+use Rattle.un_dirty.proofs.Indexed.{number_put, kept_put}
 use Rattle.un_dirty.proofs.cells.put.Goals as goal
 
 pub returns-clause-here : goal.returns-clause-here

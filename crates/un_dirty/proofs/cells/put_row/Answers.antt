@@ -1,6 +1,6 @@
 use Rattle.std.proofs.Common.{◌≡◌, true, sym, subst, arith}
 use Rattle.un_dirty.specs.Cells.{is_in}
-use Rattle.un_dirty.proofs.Shown.{one_more}
+use Rattle.un_dirty.proofs.Indexed.{one_more}
 use Rattle.un_dirty.proofs.cells.put_row.Goals as goal
 
 pub loop-column-preserved : goal.loop-column-preserved

@@ -3,7 +3,7 @@ use Rattle.std.specs.Ordering.{nat_cmp}
 use Rattle.std.specs.Map.{remove_entry}
 use Rattle.std.specs.BTreeMap.{is_at}
 use Rattle.un_dirty.specs.Cells.{is_in}
-use Rattle.un_dirty.proofs.Shown.{kept_taken, kept_emptied}
+use Rattle.un_dirty.proofs.Indexed.{kept_taken, kept_emptied}
 use Rattle.un_dirty.proofs.cells.take.Goals as goal
 
 pub returns-then-len-eq0 : goal.returns-then-len-eq0

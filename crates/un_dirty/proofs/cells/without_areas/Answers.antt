@@ -1,5 +1,5 @@
 use Rattle.std.proofs.Common.{◌≢◌}
-use Rattle.un_dirty.proofs.Shown.{all_at}
+use Rattle.un_dirty.proofs.Indexed.{all_at}
 use Rattle.un_dirty.proofs.cells.without_areas.Goals as goal
 
 pub loop-area-preserved : goal.loop-area-preserved

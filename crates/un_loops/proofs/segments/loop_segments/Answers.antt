@@ -52,11 +52,11 @@ returns-clause-exact c =
     } in
     let exact : (i : ℕ) → i < length list → (slice_get marks i ≡ Some true) ↔ IsOnCycle list i =
     subst (λ (ms : List Bool). (i : ℕ) → i < length list → (slice_get ms i ≡ Some true) ↔ IsOnCycle list i) (sym c.deref-3.ensures.value) c.in_ok-marks.ensures.exact in
-    let told = loops_marked name_cmp name_total same_name m (Assoc 0) linked c.requires.linked.mutual_links c.requires.linked.one_pair is names list marks names_are list_is exact in
+    let decided = loops_marked name_cmp name_total same_name m (Assoc 0) linked c.requires.linked.mutual_links c.requires.linked.one_pair is names list marks names_are list_is exact in
     if_ok_map c.marked_segments.result (λ found. found.items ≡ marked_segments names marks) (λ found. (s : Segment) → Contains found.items s ↔ IsOnLoop linked (Seg s.line s.index))
     (λ found items s. (
-      λ has. (told (name_of s)).0 ((has_marked names marks s).0 (subst (λ l. Contains l s) items has)),
-      λ loop. subst (λ l. Contains l s) (sym items) ((has_marked names marks s).1 ((told (name_of s)).1 loop)),
+      λ has. (decided (name_of s)).0 ((has_marked names marks s).0 (subst (λ l. Contains l s) items has)),
+      λ loop. subst (λ l. Contains l s) (sym items) ((has_marked names marks s).1 ((decided (name_of s)).1 loop)),
     ))
     c.marked_segments.ensures
 

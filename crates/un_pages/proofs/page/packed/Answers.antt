@@ -6,4 +6,4 @@ pub invariant_of-result-2 : goal.invariant_of-result-2
 invariant_of-result-2 g c = rw c.in_ok-low.ensures.back (page_drop g.met.K.Ord.total c.args.row (c.len-len.result / 2) c.requires.ordered (omega arith) (omega arith))
 
 pub invariant_of-result-3 : goal.invariant_of-result-3
-invariant_of-result-3 g c = rw c.in_ok-low.ensures.front (page_take g.met.K.Ord.total c.args.row (c.len-len.result / 2) c.requires.ordered (omega arith) (omega arith) (omega arith))
+invariant_of-result-3 g c = rw c.in_ok-low.ensures.prefix (page_take g.met.K.Ord.total c.args.row (c.len-len.result / 2) c.requires.ordered (omega arith) (omega arith) (omega arith))

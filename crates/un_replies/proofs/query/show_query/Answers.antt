@@ -3,7 +3,7 @@ use Rattle.json.specs.Token.{end_object, key, string, number}
 use Rattle.json.specs.Tree.{json_tokens}
 use Rattle.serde_json.specs.Written.{outline}
 use Rattle.un_replies.specs.Values.{counts, list}
-use Rattle.un_replies.specs.Replies.{shown, port, status_text}
+use Rattle.un_replies.specs.Replies.{reply_value, port, status_text}
 use Rattle.un_replies.proofs.Shows.{two_lists, on_ok}
 use Rattle.un_replies.proofs.query.show_query.Goals as goal
 
@@ -18,4 +18,4 @@ returns-in_ok-show_found-in-Subnet-clause-ok c =
     on_ok c.show_stored.result (end ≡ c.show_found.new.out.tokens ++ rest) _ c.show_stored.ensures.ok (λ last.
     two_lists start c.show_found.new.out.tokens end (json_tokens (outline (list port row.controllers))) (json_tokens (outline (counts row.members))) rest (codes "controllers") (codes "members")
     c.in_ok-show_found-in-Subnet.ensures.ok last
-    ∙ ap (λ r. start ++ json_tokens (outline (shown r))) (sym row.is))
+    ∙ ap (λ r. start ++ json_tokens (outline (reply_value r))) (sym row.is))

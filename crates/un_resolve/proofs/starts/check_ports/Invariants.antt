@@ -1,8 +1,8 @@
 use Rattle.std.proofs.Common.{◌≡◌, drop, map}
-use Rattle.un_defs.specs.Dues.{first_due}
+use Rattle.un_defs.specs.Refusing.{first_refusal}
 use Rattle.un_resolve.specs.Starts.{no_start}
 use Rattle.un_resolve.proofs.starts.check_ports.Given as goal
 
 -- what is due is due of the ports that are left
 abbrev pub invariant-loop-port : goal.invariant-loop-port
-invariant-loop-port l = first_due (map (no_start l.facts.features) l.ports) ≡ first_due (map (no_start l.facts.features) (drop l.port-index l.ports))
+invariant-loop-port g l = first_refusal (map (no_start (g.D.Directory.features l.features)) l.ports) ≡ first_refusal (map (no_start (g.D.Directory.features l.features)) (drop l.port-index l.ports))

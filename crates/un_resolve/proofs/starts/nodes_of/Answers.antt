@@ -5,8 +5,8 @@ use Rattle.un_resolve.proofs.starts.nodes_of.Goals as goal
 use Rattle.un_resolve.proofs.starts.nodes_of.Goals.{in-Some+in_ok-push, in_default}
 
 pub loop-port-preserved : goal.loop-port-preserved
-loop-port-preserved c =
-    let F = c.args.facts.now.features in
+loop-port-preserved g c =
+    let F = g.D.Directory.features c.args.features.now in
     let ports = c.args.ports.now in
     let k = c.loop-port.port-index in
     let d : Port = record { feature = 0; number = 0 } in

@@ -4,4 +4,4 @@ use Rattle.un_resolve.proofs.starts.nodes_of.Given as goal
 
 -- the nodes of the ports so far
 abbrev pub invariant-loop-port : goal.invariant-loop-port
-invariant-loop-port l = l.nodes.items ≡ nodes_of l.facts.features (take l.port-index l.ports)
+invariant-loop-port g l = l.nodes.items ≡ nodes_of (g.D.Directory.features l.features) (take l.port-index l.ports)

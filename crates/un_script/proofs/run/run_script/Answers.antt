@@ -37,24 +37,24 @@ returns-in-Ended-clause-ended g c = λ _.
     Ran-weaker _ _ _ _ _ _ (c.in-Ended.ensures.ended refl) (λ read out served. (served.0, served_opened read _ out (c.in-Ended.ensures.opened refl) served.1))
 
 pub returns-in-Ended-clause-complete : goal.returns-in-Ended-clause-complete
-returns-in-Ended-clause-complete g c = λ bytes words told opens short source sink. inl refl
+returns-in-Ended-clause-complete g c = λ bytes words given opens short source sink. inl refl
 
 pub returns-in-Memory-clause-complete : goal.returns-in-Memory-clause-complete
-returns-in-Memory-clause-complete g c = λ bytes words told opens short source sink. inr refl
+returns-in-Memory-clause-complete g c = λ bytes words given opens short source sink. inr refl
 
 pub returns-in-SourceFault-clause-complete : goal.returns-in-SourceFault-clause-complete
-returns-in-SourceFault-clause-complete g c = λ bytes words told opens short source sink. absurd (source (c.in-SourceFault.ensures.source_cause refl))
+returns-in-SourceFault-clause-complete g c = λ bytes words given opens short source sink. absurd (source (c.in-SourceFault.ensures.source_cause refl))
 
 pub returns-in-SinkFault-clause-complete : goal.returns-in-SinkFault-clause-complete
-returns-in-SinkFault-clause-complete g c = λ bytes words told opens short source sink. absurd (sink (c.in-SinkFault.ensures.sink_cause refl))
+returns-in-SinkFault-clause-complete g c = λ bytes words given opens short source sink. absurd (sink (c.in-SinkFault.ensures.sink_cause refl))
 
 pub returns-in-Refused-clause-complete : goal.returns-in-Refused-clause-complete
-returns-in-Refused-clause-complete g c = λ bytes words told opens short source sink.
-    absurd (refused_is_neither (c.in-Refused.ensures.complete bytes told opens short (λ e. cc) (λ e. cc)))
+returns-in-Refused-clause-complete g c = λ bytes words given opens short source sink.
+    absurd (refused_is_neither (c.in-Refused.ensures.complete bytes given opens short (λ e. cc) (λ e. cc)))
 
 pub returns-clause-complete : goal.returns-clause-complete
-returns-clause-complete g c = λ bytes words told opens short source sink.
-    absurd (limit_is_neither (c.in-Limit.ensures.complete bytes told opens short (λ e. cc) (λ e. cc)))
+returns-clause-complete g c = λ bytes words given opens short source sink.
+    absurd (limit_is_neither (c.in-Limit.ensures.complete bytes given opens short (λ e. cc) (λ e. cc)))
 
 pub returns-in-SourceFault-clause-source_fault : goal.returns-in-SourceFault-clause-source_fault
 returns-in-SourceFault-clause-source_fault g c = λ _.

@@ -4,7 +4,7 @@ use Rattle.std.specs.Option.{option_map}
 use Rattle.un_attrs.specs.Attributes.{known, in_order, bad_place}
 use Rattle.un_defs.specs.declared.refusal.Refusal.TheVariants as refusal
 use Rattle.un_store.specs.Refusals.{numbers_of}
-use Rattle.un_store.proofs.Dues.{numbered_is, bad_named}
+use Rattle.un_store.proofs.FirstRefusal.{numbered_is, bad_named}
 use Rattle.un_store.proofs.checks.attrs_of.Goals as goal
 
 pub returns-in-Ok-clause-attrs : goal.returns-in-Ok-clause-attrs

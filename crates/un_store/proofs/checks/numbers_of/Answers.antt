@@ -1,4 +1,4 @@
-use Rattle.un_store.proofs.Dues.{numbered_step}
+use Rattle.un_store.proofs.FirstRefusal.{numbered_step}
 use Rattle.un_store.proofs.checks.numbers_of.Goals as goal
 
 pub loop-pair-preserved : goal.loop-pair-preserved

@@ -1,4 +1,4 @@
-use Rattle.un_store.proofs.Dues.{NumberedUpto}
+use Rattle.un_store.proofs.FirstRefusal.{NumberedUpto}
 use Rattle.un_store.proofs.checks.numbers_of.Given as goal
 
 abbrev pub invariant-loop-pair : goal.invariant-loop-pair

@@ -6,17 +6,17 @@ use Rattle.un_defs.specs.Ground.{entry}
 use Rattle.un_trace.specs.declared.nodes.Seen.{Seen}
 use Rattle.un_trace.specs.Seen.{nodes_of, spot_of}
 use Rattle.un_trace.specs.Functions.{total_of}
-use Rattle.un_trace.proofs.Answered.{told_sorted}
+use Rattle.un_trace.proofs.Answered.{result_sorted}
 use Rattle.un_trace.proofs.Whole.{reply_with, result_is}
 use Rattle.un_trace.proofs.answer.result_of.Goals as goal
 
 pub features_of-requires : goal.features_of-requires
 features_of-requires g c =
     subst (IsStrictlySortedBy node_cmp) (sym (ap nodes_of c.as_slice-seen.ensures.value ∙ c.in_ok-nodes.ensures.nodes))
-    (told_sorted (g.G.Ground.stars_and_areas c.args.over.now) c.args.ask.now c.args.reached.now c.requires)
+    (result_sorted (g.G.Ground.stars_and_areas c.args.over.now) c.args.ask.now c.args.reached.now c.requires)
 
-pub returns-clause-told : goal.returns-clause-told
-returns-clause-told g c =
+pub returns-clause-reply : goal.returns-clause-reply
+returns-clause-reply g c =
     let G = g.G.Ground.stars_and_areas c.args.over.now in
     let seen : List Seen = c.as_slice-seen.result.now in
     result_is G c.args.ask.now c.args.reached.now seen

@@ -3,7 +3,7 @@ use Rattle.std.specs.Ordering.{nat_cmp}
 use Rattle.std.specs.List.{cons_option}
 use Rattle.un_trace.specs.declared.nodes.Seen.{Seen}
 use Rattle.un_trace.proofs.Rise.{feature_of, number_of, rise_from}
-use Rattle.un_trace.proofs.Told.{told_parts, told_firsts, parts_are, firsts_are, parts_more, firsts_more, read_part, read_first}
+use Rattle.un_trace.proofs.SeenParts.{seen_parts, seen_firsts, parts_are, firsts_are, parts_more, firsts_more, read_part, read_first}
 use Rattle.un_trace.proofs.Turn.{turn, counted}
 use Rattle.un_trace.proofs.features.features_of.Goals as goal
 
@@ -26,11 +26,11 @@ loop-begin-preserved c =
       parts = c.in_ok-add.ensures.parts
           ∙ (λ i. c.loop-begin.invariant.parts i ++ read_part (feature_of (sym c.index-seen-begin.is i)) (t.is_run i) ∷ [])
           ∙ sym (parts_more (take k seen) t.run (feature_of s) more)
-          ∙ ap told_parts (sym t.so_far);
+          ∙ ap seen_parts (sym t.so_far);
       firsts = c.in_ok-add.ensures.firsts
           ∙ (λ i. c.loop-begin.invariant.firsts i ++ cons_option (read_first (t.is_run i)) [])
           ∙ sym (firsts_more (take k seen) t.run (feature_of s) more)
-          ∙ ap told_firsts (sym t.so_far);
+          ∙ ap seen_firsts (sym t.so_far);
     }
 
 pub loop-begin-smaller : goal.loop-begin-smaller
@@ -41,8 +41,8 @@ loop-begin-smaller c =
 
 pub returns-clause-parts : goal.returns-clause-parts
 returns-clause-parts c =
-    c.loop-begin.invariant.parts ∙ ap told_parts (take_all c.loop-begin.begin c.args.seen.now c.loop-begin-test.false) ∙ sym (parts_are c.args.seen.now)
+    c.loop-begin.invariant.parts ∙ ap seen_parts (take_all c.loop-begin.begin c.args.seen.now c.loop-begin-test.false) ∙ sym (parts_are c.args.seen.now)
 
 pub returns-clause-firsts : goal.returns-clause-firsts
 returns-clause-firsts c =
-    c.loop-begin.invariant.firsts ∙ ap told_firsts (take_all c.loop-begin.begin c.args.seen.now c.loop-begin-test.false) ∙ sym (firsts_are c.args.seen.now)
+    c.loop-begin.invariant.firsts ∙ ap seen_firsts (take_all c.loop-begin.begin c.args.seen.now c.loop-begin-test.false) ∙ sym (firsts_are c.args.seen.now)

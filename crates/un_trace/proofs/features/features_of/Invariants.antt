@@ -3,7 +3,7 @@ use Rattle.std.specs.Map.Iter.{deref}
 use Rattle.un_defs.proofs.Rising.{Among}
 use Rattle.un_trace.specs.declared.nodes.Seen.{Seen}
 use Rattle.un_trace.proofs.Rise.{feature_of}
-use Rattle.un_trace.proofs.Told.{told_parts, told_firsts}
+use Rattle.un_trace.proofs.SeenParts.{seen_parts, seen_firsts}
 use Rattle.un_trace.proofs.features.features_of.Given as goal
 
 -- the nodes so far are told, and those to come are of later features
@@ -11,8 +11,8 @@ abbrev pub invariant-loop-begin : goal.invariant-loop-begin
 invariant-loop-begin l = record {
   within : l.begin ≤ length l.seen;
   apart : (s t : Seen) → Among (take l.begin l.seen) s → Among (drop l.begin l.seen) t → feature_of s < feature_of t;
-  parts : l.features.parts.items ≡ told_parts (take l.begin l.seen);
-  firsts : map deref l.features.firsts.items ≡ told_firsts (take l.begin l.seen);
+  parts : l.features.parts.items ≡ seen_parts (take l.begin l.seen);
+  firsts : map deref l.features.firsts.items ≡ seen_firsts (take l.begin l.seen);
 }
 
 abbrev pub decreases-loop-begin : goal.decreases-loop-begin

@@ -18,9 +18,9 @@ returns-in-Ok c =
     let e = c.args.edit.now in
     let next = c.in-Ok.field-0.net in
     let more : next.next_area ≡ s.next_area + length (dirtied s.features e) = ap (λ (t : State). t.next_area) c.in-Ok.ensures.state in
-    edit_done s e c.in-Some.word c.requires.known (sym c.word_of.ensures ∙ c.in-Some.is) next c.in-Ok.ensures.state c.in-Ok.ensures.good c.areas_made.result c.told_id.result c.net.inside.version c.new.result
+    edit_done s e c.in-Some.word c.requires.known (sym c.word_of.ensures ∙ c.in-Some.is) next c.in-Ok.ensures.state c.in-Ok.ensures.good c.areas_made.result c.reply_id.result c.net.inside.version c.new.result
     (areas_of s next (length (dirtied s.features e)) c.areas_made.result c.areas_made.ensures more)
-    (c.told_id.ensures ∙ ap (λ (t : State). id_of t e) c.self.view_is)
+    (c.reply_id.ensures ∙ ap (λ (t : State). id_of t e) c.self.view_is)
     (ap (λ (t : State). t.version) (c.net.view_is ∙ c.in-Ok.ensures.state))
     (c.new.ensures ∙ c.in-Ok.ensures.dirtied)
 

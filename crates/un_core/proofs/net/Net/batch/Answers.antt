@@ -1,9 +1,8 @@
 use Rattle.std.proofs.Common.{◌≡◌, ◌+◌, refl, sym, ap, subst, ◌∙◌}
 use Rattle.std.proofs.lemmas.Result.{err_from_is_err_and}
 use Rattle.un_ask.specs.declared.request.Command.TheVariants as command
-use Rattle.un_facts.specs.Known.{settled_at}
 use Rattle.un_core.specs.State.{State}
-use Rattle.un_core.specs.Step.{made_by_all, touched_by_all, batched}
+use Rattle.un_core.specs.Step.{batched}
 use Rattle.un_core.specs.Cover.{IsState}
 use Rattle.un_core.specs.Held.{held}
 use Rattle.un_core.proofs.CoverKept.{cover_is_kept}

@@ -11,6 +11,6 @@ pub returns : goal.returns
 returns c =
     let s = c.args.self.now in
     let is = subst IsState c.self.view_is c.self.invariant in
-    let kept : IsKept s.kept = record { sorted = is.sorted; told = is.told } in
+    let kept : IsKept s.kept = record { sorted = is.sorted; nonempty = is.nonempty } in
     c.new.ensures ∙ c.in_ok-errors.ensures ∙ ap (λ (t : State). errors_kept t.kept c.args.extent) c.self.view_is
     ∙ errors_listed (kept_survey s) s.kept kept (λ p. refl) (kept_points s.kept) c.args.extent

@@ -1,16 +1,14 @@
-use Rattle.std.proofs.Common.{◌≡◌, ◌<◌, None, Some, refl, sym, ap, ◌∙◌, subst, arith}
+use Rattle.std.proofs.Common.{◌≡◌, ◌<◌, Some, refl, sym, ap, ◌∙◌, subst}
 use Rattle.std.proofs.lemmas.Result.{err_from_is_err_and}
-use Rattle.un_defs.specs.Dues.{first_due}
+use Rattle.un_defs.specs.Refusing.{first_refusal}
 use Rattle.un_defs.specs.Dirtied.{dirtied}
 use Rattle.un_defs.specs.Laws.{MayBeMade}
 use Rattle.un_dirty.specs.Areas.{added}
 use Rattle.un_facts.specs.Refusals.{refusal_of}
 use Rattle.un_core.specs.State.{State}
-use Rattle.un_core.specs.Step.{setting, next_with, made_at}
-use Rattle.un_core.specs.Held.{held}
-use Rattle.un_core.specs.Making.{AreasGrow, FeaturesGrow, AssociationsGrow}
+use Rattle.un_core.specs.Step.{setting, next_with}
 use Rattle.un_core.specs.Refusals.{too_many, beside_numbers}
-use Rattle.un_core.proofs.Making.{new, state_is, is_state, features_grow, associations_grow, areas_grow_of, two_none, two_first, two_second}
+use Rattle.un_core.proofs.Making.{new, is_state, areas_grow_of, two_first, two_second}
 use Rattle.un_core.proofs.net.Net.make.Goals as goal
 
 pub edit-requires : goal.edit-requires
@@ -35,7 +33,7 @@ returns-in_err-facts-clause-bad c =
     let r = c.in_err-facts.field-0.0 in
     let p = err_from_is_err_and c.from_residual.result c.from_residual.ensures.1 in
     rw (p.1, p.2)
-    (λ memory. subst (λ (s : State). first_due (beside_numbers s e) ≡ Some r) c.self.view_is
+    (λ memory. subst (λ (s : State). first_refusal (beside_numbers s e) ≡ Some r) c.self.view_is
     (two_first (refusal_of K e) (too_many c.self.inside.dirty.areas (dirtied K.features e)) r (c.in_err-facts.ensures.bad memory)))
 
 pub returns-in_err-dirty-clause-bad : goal.returns-in_err-dirty-clause-bad
@@ -45,7 +43,7 @@ returns-in_err-dirty-clause-bad c =
     let r = c.in_err-dirty.field-0.0 in
     let p = err_from_is_err_and c.from_residual-in_err-dirty.result c.from_residual-in_err-dirty.ensures.1 in
     rw (p.1, p.2)
-    (λ memory. subst (λ (s : State). first_due (beside_numbers s e) ≡ Some r) c.self.view_is
+    (λ memory. subst (λ (s : State). first_refusal (beside_numbers s e) ≡ Some r) c.self.view_is
     (two_second (refusal_of K e) (too_many c.self.inside.dirty.areas (dirtied K.features e)) r c.in_ok-facts.ensures.good
     (sym (ap (too_many c.self.inside.dirty.areas) (c.deref.ensures.value ∙ c.in_ok-facts.ensures.dirtied)) ∙ c.in_err-dirty.ensures.bad memory)))
 

@@ -3,7 +3,6 @@ use Rattle.std.proofs.lemmas.List.{take_more}
 use Rattle.un_geom.specs.declared.point.Point.{Point}
 use Rattle.un_geom.specs.Rectangle.{Rectangle}
 use Rattle.un_points.specs.PointMaps.{covered}
-use Rattle.un_facts.specs.Places.{ArePlaces}
 use Rattle.un_core.specs.Validation.{ArePoints}
 use Rattle.un_core.proofs.Pointed.{Gathers, gathers_more, put_all, are_points}
 use Rattle.un_core.proofs.net.Net.points_under.Goals as goal

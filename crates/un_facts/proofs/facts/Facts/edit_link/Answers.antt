@@ -11,12 +11,12 @@ use Rattle.un_assoc.specs.Lawful.{LinksAloneLaw}
 use Rattle.un_assoc.specs.Edits.{IsMade}
 use Rattle.un_facts.specs.declared.ids.NextIds.{NextIds}
 use Rattle.un_assoc.specs.Refusals.{refusal_of as link_refusal}
-use Rattle.un_facts.specs.declared.setup.Setup.{Setup}
+use Rattle.un_tiers.specs.declared.setup.Setup.{Setup}
 use Rattle.un_facts.specs.Known.{Known, features_of, setting, next_at, edited, linked}
 use Rattle.un_facts.specs.Standing.{IsKnown}
 use Rattle.un_facts.proofs.Edited.{link_rectangles}
 use Rattle.un_facts.proofs.Linked.{under, rules_aside, link_left}
-use Rattle.un_facts.proofs.Makeable.{made, link_word, link_due, edited_known}
+use Rattle.un_facts.proofs.Makeable.{made, link_word, link_refused, edited_known}
 use Rattle.un_facts.proofs.facts.Facts.edit_link.Goals as goal
 
 pub returns-clause-may : goal.returns-clause-may
@@ -29,9 +29,9 @@ returns-clause-may c =
     let catalog = subst (λ (C : Setup). IsCatalog C.schema) c.deref.ensures c.rules-rules.ensures.catalog in
     let good : link_refusal (setting S) (under rows links []) e ≡ None =
     subst (λ (C : Setup). link_refusal (setting C) (under rows links []) e ≡ None) c.deref.ensures c.in_ok-assocs.ensures.good in
-    let due = link_due K e c.requires.word None (rules_aside (setting S) rows links S.schema.rules [] e ∙ good) in
+    let cause = link_refused K e c.requires.word None (rules_aside (setting S) rows links S.schema.rules [] e ∙ good) in
     subst (λ (L : Known). MayBeMade (setting L.setup) (next_at c.args.ids c.args.moment) L.features e) c.self.view_is
-    (made K c.args.ids c.args.moment catalog c.self.invariant.0.sound e (link_word e c.requires.word) due)
+    (made K c.args.ids c.args.moment catalog c.self.invariant.0.sound e (link_word e c.requires.word) cause)
 
 -- the features with the associations and controllers that the edit leaves
 left_is : LinksAloneLaw → (K : Known) (S : Setup) (rows : List Row) (before after : Links) → record { setup = S; features = features_of S.schema rows before } ≡ K
@@ -53,8 +53,8 @@ with_assocs-requires c =
     let catalog = subst (λ (C : Setup). IsCatalog C.schema) c.deref.ensures c.rules-rules.ensures.catalog in
     let good : link_refusal (setting S) (under rows links []) e ≡ None =
     subst (λ (C : Setup). link_refusal (setting C) (under rows links []) e ≡ None) c.deref.ensures c.in_ok-assocs.ensures.good in
-    let due = link_due K e c.requires.word None (rules_aside (setting S) rows links S.schema.rules [] e ∙ good) in
-    let may = made K ids c.args.moment catalog c.self.invariant.0.sound e (link_word e c.requires.word) due in
+    let cause = link_refused K e c.requires.word None (rules_aside (setting S) rows links S.schema.rules [] e ∙ good) in
+    let may = made K ids c.args.moment catalog c.self.invariant.0.sound e (link_word e c.requires.word) cause in
     let is_made : IsMade (setting S) ids.association (only_rows rows) links e c.in_ok-assocs.assocs =
     subst (λ (C : Setup). IsMade (setting C) ids.association (only_rows rows) links e c.in_ok-assocs.assocs) c.deref.ensures c.in_ok-assocs.ensures.links in
     subst IsKnown (sym (left_is c.links_alone.ensures.links c.args.self.now S rows links c.in_ok-assocs.assocs c.self.view_is ids c.args.moment e c.requires.word is_made))

@@ -1,0 +1,57 @@
+//! The front of some bytes, in room that was taken beforehand.
+ghost use Rattle.std.specs.Prelude.{◌≡◌, ◌+◌, ◌≤◌, [], ◌++◌, length, IfOk};
+
+use std::alloc::{AllocError, Global};
+use std::marker::Model;
+
+/// Bytes in memory, and for how many there is room. Keeping them takes no memory.
+#[derive(Drop)]
+pub(crate) struct Buffer {
+    bytes: Vec<u8>,
+    room: usize,
+}
+
+impl Model for Buffer {
+    ghost use Rattle.std.specs.Prelude.{◌≤◌, vec_len, vec_capacity};
+    ghost use Rattle.un_io.specs.States.{Buffer as Kept};
+
+    ghost Value = { Kept };
+
+    ghost view = { λ f. record { bytes = f.bytes.items; room = f.room } };
+
+    ghost invariant = { λ f. (vec_len f.bytes ≤ f.room) × (f.room ≤ vec_capacity f.bytes) };
+}
+
+impl Buffer {
+    /// Room for so many bytes, of which none is there.
+    pub(crate) fn new(alloc: Global, room: usize) -> Result<Buffer, AllocError>
+        ensures { IfOk result (λ buffer. buffer ≡ record { bytes = []; room = room }) }
+    {
+        Ok(Buffer {
+            bytes: Vec::with_capacity(alloc, room)?,
+            room,
+        })
+    }
+
+    /// For how many more bytes there is room.
+    pub(crate) fn spare(&self) -> usize
+        ensures { length self.now.bytes + result ≡ self.now.room }
+    {
+        self.room - self.bytes.len()
+    }
+
+    /// Keeps the piece behind the others.
+    pub(crate) fn keep(&mut self, piece: &[u8])
+        requires { length self.old.bytes + length piece.now ≤ self.old.room }
+        ensures { self.new ≡ record self.old { bytes = self.old.bytes ++ piece.now } }
+    {
+        self.bytes.extend_from_slice(piece).unwrap()
+    }
+
+    /// The bytes.
+    pub(crate) fn bytes(&self) -> &[u8]
+        ensures { result.now ≡ self.now.bytes }
+    {
+        self.bytes.as_slice()
+    }
+}

@@ -1,0 +1,5 @@
+//! Tests of the JSON of replies.
+#![tactic(auto)]
+
+#[cfg(test)]
+mod replies;

@@ -1,0 +1,75 @@
+-- No refusal that can be told before a walk is one of want of memory: that is told apart from all causes.
+use Rattle.std.proofs.Common.{ℕ, ◌==◌, ◌&&◌, not, length, map, is_some, Bool, List, [], ◌∷◌, Option}
+use Rattle.un_conds.specs.Conditions.{Condition}
+use Rattle.un_schema.specs.declared.place.Place.{Place}
+use Rattle.un_schema.specs.declared.place.Place.TheVariants as place
+use Rattle.un_schema.specs.Catalog.{Catalog}
+use Rattle.un_tiers.specs.Raw.{resolves}
+use Rattle.un_defs.specs.declared.port.Port.{Port}
+use Rattle.un_defs.specs.declared.refusal.Refusal.{Refusal}
+use Rattle.un_defs.specs.declared.refusal.Refusal.TheVariants as refusal
+use Rattle.un_defs.specs.Refusing.{first_refusal}
+use Rattle.un_defs.specs.Features.{Features, row}
+use Rattle.un_ask.specs.declared.trace.TraceAsk.{TraceAsk}
+use Rattle.un_tiers.specs.declared.setup.Setup.{Setup}
+use Rattle.un_defs.proofs.NoMemory.{IsOther, AreOther, first_other, other_where}
+use Rattle.un_resolve.specs.Kinds.{needs_tier, is_subnetwork, is_isolation, lacks, lacking}
+use Rattle.un_resolve.specs.Starts.{given_starts, start_node, no_feature, no_start, tier_of, no_tier, controller_ports, no_subnet, starts_refusal}
+use Rattle.un_resolve.specs.Resolved.{bad_condition, conditions_refusal, resolving_refusal}
+
+lacks_other : (needed given : Bool) (p : Place) → IsOther (lacks needed given p)
+lacks_other needed given p = other_where (needed && not given) (refusal.BadRequest p) (λ e. cc)
+
+lacking_other : (ask : TraceAsk) → IsOther (lacking ask)
+unfolding AreOther
+lacking_other ask = first_other
+    (lacks (needs_tier ask.kind) (is_some ask.tier) place.Tier ∷ lacks (is_subnetwork ask.kind) (is_some ask.subnet) place.Subnet
+    ∷ lacks (is_isolation ask.kind) (is_some ask.isolators) place.Isolators ∷ []) (
+      lacks_other (needs_tier ask.kind) (is_some ask.tier) place.Tier,
+      (
+        lacks_other (is_subnetwork ask.kind) (is_some ask.subnet) place.Subnet,
+        (lacks_other (is_isolation ask.kind) (is_some ask.isolators) place.Isolators, tt),
+      ),
+    )
+
+-- what is due of each port is due of the list
+all_other : (cause : Port → Option Refusal) → ((q : Port) → IsOther (cause q)) → (ports : List Port) → AreOther (map cause ports)
+unfolding AreOther
+all_other cause other [] = tt
+all_other cause other (q ∷ ports) = (other q, all_other cause other ports)
+
+ports_other : (cause : Port → Option Refusal) → ((q : Port) → IsOther (cause q)) → (ports : List Port) → IsOther (first_refusal (map cause ports))
+ports_other cause other ports = first_other (map cause ports) (all_other cause other ports)
+
+feature_other : (F : Features) (q : Port) → IsOther (no_feature F q)
+feature_other F q = other_where (not (is_some (row F q.feature))) (refusal.NoSuchFeature q.feature) (λ e. cc)
+
+start_other : (F : Features) (q : Port) → IsOther (no_start F q)
+start_other F q = other_where (not (is_some (start_node F q))) (refusal.NoStart q.feature q.number) (λ e. cc)
+
+starts_other : (S : Setup) (F : Features) (ask : TraceAsk) → IsOther (starts_refusal S F ask)
+unfolding AreOther
+starts_other S F ask = first_other
+    (first_refusal (map (no_feature F) (given_starts ask)) ∷ no_tier S ask ∷ no_subnet S F ask ∷ first_refusal (map (no_start F) (given_starts ask)) ∷ []) (
+      ports_other (no_feature F) (feature_other F) (given_starts ask),
+      (
+        other_where (is_some ask.tier && not (is_some (tier_of S ask))) refusal.NoSuchTier (λ e. cc),
+        (
+          other_where (is_subnetwork ask.kind && (length (controller_ports S F ask) == 0)) refusal.NoSuchSubnetwork (λ e. cc),
+          (ports_other (no_start F) (start_other F) (given_starts ask), tt),
+        ),
+      ),
+    )
+
+condition_other : (S : Catalog) (cond : Option (Condition (List ℕ))) (p : Place) → IsOther (bad_condition S cond p)
+condition_other S cond p = other_where (not (resolves S.attributes S.categories cond)) (refusal.BadCondition p) (λ e. cc)
+
+conditions_other : (S : Catalog) (ask : TraceAsk) → IsOther (conditions_refusal S ask)
+unfolding AreOther
+conditions_other S ask = first_other (bad_condition S ask.isolators place.Isolators ∷ bad_condition S ask.barriers place.Barriers ∷ [])
+    (condition_other S ask.isolators place.Isolators, (condition_other S ask.barriers place.Barriers, tt))
+
+pub resolving_other : (S : Setup) (F : Features) (ask : TraceAsk) → IsOther (resolving_refusal S F ask)
+unfolding AreOther
+resolving_other S F ask = first_other (lacking ask ∷ starts_refusal S F ask ∷ conditions_refusal S.schema ask ∷ [])
+    (lacking_other ask, (starts_other S F ask, (conditions_other S.schema ask, tt)))

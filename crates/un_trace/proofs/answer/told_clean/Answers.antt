@@ -1,7 +1,0 @@
-use Rattle.std.proofs.Common.{sym, ◌∙◌}
-use Rattle.un_trace.proofs.Answered.{has_tier}
-use Rattle.un_trace.proofs.answer.told_clean.Goals as goal
-
-pub controllers_reply-requires : goal.controllers_reply-requires
-controllers_reply-requires g c =
-    has_tier c.args.ask.now.kind c.args.ask.now.barriers.tier c.requires.kind (sym c.tells_controllers.ensures ∙ c.if-tells_controllers.true)
