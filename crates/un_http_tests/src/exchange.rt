@@ -1,4 +1,3 @@
-ghost use Rattle.std.specs.Prelude.{◌<◌};
 
 use std::alloc::{AllocError, Global};
 use std::sync::Wait;
@@ -71,9 +70,6 @@ const WHOLE: Reads<'static> = Reads {
     failing: &[],
 };
 
-/// The step between the cuts of a long input. It comes to the byte 8,191.
-const LONG_STEP: usize = 63;
-
 // Whether the input, read so, is requests with these lines, and ends so.
 fn gives<R: Wait>(
     rt: &R,
@@ -88,18 +84,15 @@ fn gives<R: Wait>(
     Ok(found.as_slice() == lines && last == end)
 }
 
-// Whether it is so in one read, and also where the first read ends after the first byte or any `step` bytes later.
-fn gives_cut_by<R: Wait>(
+// Whether it is so in one read, and also where the first read ends after any of the bytes.
+fn gives_however_cut<R: Wait>(
     rt: &R,
     alloc: Global,
     input: &[u8],
-    step: usize,
     lines: &[u8],
     end: Next,
-) -> Result<bool, AllocError>
-    requires { 0 < step }
-{
-    for cut in (1..=input.len()).step_by(step) {
+) -> Result<bool, AllocError> {
+    for cut in 1..=input.len() {
         let reads = Reads {
             cuts: &[cut],
             failing: &[],
@@ -109,15 +102,4 @@ fn gives_cut_by<R: Wait>(
         }
     }
     gives(rt, alloc, input, WHOLE, lines, end)
-}
-
-// Whether it is so however the first read cuts the input.
-fn gives_however_cut<R: Wait>(
-    rt: &R,
-    alloc: Global,
-    input: &[u8],
-    lines: &[u8],
-    end: Next,
-) -> Result<bool, AllocError> {
-    gives_cut_by(rt, alloc, input, 1, lines, end)
 }

@@ -1,5 +1,5 @@
 //! Heads that pass all checks, and what they say.
-use super::{LONG_STEP, WHOLE, gives, gives_cut_by, gives_however_cut};
+use super::{WHOLE, gives, gives_however_cut};
 use std::alloc::{AllocError, Global};
 use std::sync::Wait;
 use std::test::Fail;
@@ -87,17 +87,14 @@ fn stretched(alloc: Global, first: &str, count: usize, last: &str) -> Result<Vec
 // A head of 8,192 bytes.
 fn gives_long_block<R: Wait>(rt: &R, alloc: Global) -> Result<bool, AllocError> {
     let block = stretched(alloc, "GET /a HTTP/1.1\r\nH: ", 8_168, "\r\n\r\n")?;
-    Ok(
-        block.len() == 8_192
-            && gives_cut_by(rt, alloc, &block, LONG_STEP, b"GET /a \n", Next::Closed)?,
-    )
+    Ok(block.len() == 8_192 && gives_however_cut(rt, alloc, &block, b"GET /a \n", Next::Closed)?)
 }
 
 // A request line of 8,000 bytes, and two ends of lines.
 fn gives_long_line<R: Wait>(rt: &R, alloc: Global) -> Result<bool, AllocError> {
     let input = stretched(alloc, "GET /", 7_986, " HTTP/1.1\r\n\r\n")?;
     let lines = stretched(alloc, "GET /", 7_986, " \n")?;
-    Ok(input.len() == 8_004 && gives_cut_by(rt, alloc, &input, LONG_STEP, &lines, Next::Closed)?)
+    Ok(input.len() == 8_004 && gives_however_cut(rt, alloc, &input, &lines, Next::Closed)?)
 }
 
 // A head with 32 headers.

@@ -1,7 +1,6 @@
 //! What hostile clients send. Each head here is refused by its check when its last byte is read, and no sooner.
-ghost use Rattle.std.specs.Prelude.{◌<◌};
 
-use super::{LONG_STEP, Reads, WHOLE, gives, gives_cut_by, gives_however_cut};
+use super::{Reads, WHOLE, gives, gives_however_cut};
 use std::alloc::{AllocError, Global};
 use std::sync::Wait;
 use std::test::Fail;
@@ -85,16 +84,9 @@ const NO_LENGTH: [&str; 3] = [
     "POST /a HTTP/1.1\nContent-Type: application/json\n\n",
 ];
 
-// Whether the input ends inside a request where it ends after its first byte or any `step` bytes later.
-fn ends_inside<R: Wait>(
-    rt: &R,
-    alloc: Global,
-    input: &[u8],
-    step: usize,
-) -> Result<bool, AllocError>
-    requires { 0 < step }
-{
-    for size in (1..input.len()).step_by(step) {
+// Whether the input ends inside a request where it ends after any of its bytes but the last.
+fn ends_inside<R: Wait>(rt: &R, alloc: Global, input: &[u8]) -> Result<bool, AllocError> {
+    for size in 1..input.len() {
         let end = Next::Cut { bytes: size as u64 };
         if !gives(rt, alloc, &input[..size], WHOLE, b"", end)? {
             return Ok(false);
@@ -103,18 +95,10 @@ fn ends_inside<R: Wait>(
     Ok(true)
 }
 
-// Whether each failing read of the input is answered as one. The reads have `size` bytes.
-fn fails_at_each_read<R: Wait>(
-    rt: &R,
-    alloc: Global,
-    input: &[u8],
-    size: usize,
-) -> Result<bool, AllocError>
-    requires { 0 < size }
-{
-    let calls = input.len().div_ceil(size);
-    let cuts = vec![in alloc; size; calls]?;
-    for call in 0..calls {
+// Whether each failing read of the input is answered as one, where each read has one byte.
+fn fails_at_each_read<R: Wait>(rt: &R, alloc: Global, input: &[u8]) -> Result<bool, AllocError> {
+    let cuts = vec![in alloc; 1; input.len()]?;
+    for call in 0..input.len() {
         let reads = Reads {
             cuts: cuts.as_slice(),
             failing: &[call],
@@ -135,8 +119,8 @@ fn is_refused<R: Wait>(
 ) -> Result<bool, AllocError> {
     Ok(
         gives_however_cut(rt, alloc, input, b"", Next::Failed(check))?
-            && ends_inside(rt, alloc, input, 1)?
-            && fails_at_each_read(rt, alloc, input, 1)?,
+            && ends_inside(rt, alloc, input)?
+            && fails_at_each_read(rt, alloc, input)?,
     )
 }
 
@@ -250,9 +234,9 @@ fn is_refused_endless<R: Wait>(rt: &R, alloc: Global) -> Result<bool, AllocError
     let input = endless(alloc, 8_192)?;
     let refused = Next::Failed(Check::ManyHeaders);
     Ok(
-        gives_cut_by(rt, alloc, &input, LONG_STEP, b"", refused)?
-            && ends_inside(rt, alloc, &input, LONG_STEP)?
-            && fails_at_each_read(rt, alloc, &input, LONG_STEP)?,
+        gives_however_cut(rt, alloc, &input, b"", refused)?
+            && ends_inside(rt, alloc, &input)?
+            && fails_at_each_read(rt, alloc, &input)?,
     )
 }
 
@@ -268,8 +252,8 @@ fn is_kept_until_whole<R: Wait>(rt: &R, alloc: Global) -> Result<bool, AllocErro
     let lines = b"POST /commands {\"do\":12}\n";
     Ok(
         gives_however_cut(rt, alloc, input, lines, Next::Closed)?
-            && ends_inside(rt, alloc, input, 1)?
-            && fails_at_each_read(rt, alloc, input, 1)?,
+            && ends_inside(rt, alloc, input)?
+            && fails_at_each_read(rt, alloc, input)?,
     )
 }
 
