@@ -1,7 +1,7 @@
 -- The replies of commands, and of traces that meet dirt.
-use Rattle.std.specs.Prelude.{◌≤◌, length, None, ⊤}
+use Rattle.std.specs.Prelude.{◌≢◌, ◌≤◌, length, None, ⊤}
 use Rattle.un_defs.specs.declared.walk.Dirt.{Dirt}
-use Rattle.un_defs.specs.declared.refusal.Refusal.TheVariants.{DirtyGround}
+use Rattle.un_defs.specs.declared.refusal.Refusal.TheVariants.{DirtyGround, Memory}
 use Rattle.un_ask.specs.declared.request.Command.{Command}
 use Rattle.un_ask.specs.declared.request.Command.TheVariants.{Batch}
 use Rattle.un_ask.specs.declared.reply.Reply.{Reply}
@@ -30,3 +30,8 @@ HasFewEdits other = ⊤
 -- the reply of a trace that meets dirt names the area and the port. The caller puts in the version.
 abbrev pub on_dirty_ground : Dirt → Reply
 on_dirty_ground d = reply.Refused (DirtyGround d.area d.port.feature d.port.number) None 0
+
+-- the reply is none that tells of want of memory
+abbrev pub IsNoMemory : Reply → Type 0
+IsNoMemory (reply.Refused refusal edit version) = refusal ≢ Memory
+IsNoMemory other = ⊤

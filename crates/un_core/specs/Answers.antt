@@ -1,6 +1,6 @@
 -- What a query is answered.
 pub use Rattle.un_core.specs.Refusals.{refused}
-use Rattle.std.specs.Prelude.{◌≡◌, Contains, ℕ, nat_lt, not, Bool, true, false, List, [], ◌∷◌, map, Option, None, Some, if◌then◌else◌}
+use Rattle.std.specs.Prelude.{◌≡◌, Contains, ℕ, ◌*◌, length, nat_lt, not, Bool, true, false, List, [], ◌∷◌, map, Option, None, Some, if◌then◌else◌}
 use Rattle.std.specs.Option.{option_map_or}
 use Rattle.un_geom.specs.Rectangle.{Rectangle}
 use Rattle.un_schema.specs.declared.place.Place.TheVariants as place
@@ -171,3 +171,7 @@ answer s q = answer_on s (kept_basis s) q
 abbrev pub reached_by : State → Asked → List Node
 reached_by s (Trace ask) = reached_from (kept_survey s) (resolved s.setup s.features ask)
 reached_by s what = []
+
+-- the most stars that are looked up for it: for each node that a trace reaches, one for the walk and one for the answer
+abbrev pub most_look_ups : State → Query → ℕ
+most_look_ups s q = 2 * length (reached_by s q.what)

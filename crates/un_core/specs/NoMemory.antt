@@ -29,6 +29,7 @@ use Rattle.un_ask.specs.declared.reply.Reply.{Reply}
 use Rattle.un_ask.specs.declared.reply.Reply.TheVariants as reply
 use Rattle.un_resolve.specs.Resolved.{resolved, resolving_refusal}
 use Rattle.un_resolve.proofs.NoMemory.{resolving_other}
+use Rattle.un_ask.specs.Replies.{IsNoMemory}
 use Rattle.un_loops.specs.Answer.{loops_reply, loops_given_dirt}
 use Rattle.un_trace.specs.TraceReply.{trace_reply, reply_given_dirt, lists_controllers, controllers_reply, result_reply}
 use Rattle.un_core.specs.State.{State, known}
@@ -37,11 +38,6 @@ use Rattle.un_core.specs.Step.{made_at, id_of}
 use Rattle.un_core.specs.Commands.{is_known, unknown, known_refusal, command_refusal, refusal_reply, accepted, word_of, areas_of_edit, edit_reply, command_reply}
 use Rattle.un_core.specs.Answers.{Basis, answer_on, asked_on, traced_on, survey_for, reached_from, at_version, query_refusal, untaken, feature_reply, refused, is_taken, too_early, is_loops, reply_over}
 use Rattle.un_core.specs.Feature.{feature_of_row}
-
--- the reply is none that tells of want of memory
-abbrev pub IsNoMemory : Reply → Type 0
-IsNoMemory (reply.Refused r edit version) = r ≢ refusal.Memory
-IsNoMemory other = ⊤
 
 -- ---- commands
 

@@ -1,5 +1,5 @@
 -- What is looked at before a command is done, in order, and the refusal that is due.
-use Rattle.std.specs.Prelude.{ℕ, ◌+◌, nat_lt, nat_le, ◌||◌, List, [], ◌∷◌, length, Option, Some, None}
+use Rattle.std.specs.Prelude.{◌≡◌, ◌≢◌, Result, IfErr, ℕ, ◌+◌, nat_lt, nat_le, ◌||◌, List, [], ◌∷◌, length, Option, Some, None}
 use Rattle.std.specs.Option.{option_map, option_map_or}
 use Rattle.un_geom.specs.Rectangle.{Rectangle}
 use Rattle.un_defs.specs.declared.edit.Edit.{Edit}
@@ -13,6 +13,10 @@ use Rattle.un_defs.specs.Refusing.{first_refusal, refused_if}
 use Rattle.un_facts.specs.Refusals.{refusal_of}
 use Rattle.un_core.specs.State.{State, known}
 use Rattle.un_core.specs.Step.{made_at}
+
+-- an error is the refusal that has its cause, or one of want of memory
+abbrev pub Refuses : {A : Type 0} → Result A Refusal → Option Refusal → Type 0
+Refuses result cause = IfErr result (λ r. r ≢ refusal.Memory → cause ≡ Some r)
 
 -- a version or a number from here on is none
 abbrev pub last_number : ℕ
@@ -60,3 +64,7 @@ refused_place s es = option_map_or (λ r. None) (numbers_refusal s) (option_map 
 -- the reply that tells of a refusal
 abbrev pub refused : State → Refusal → Reply
 refused s r = Refused r None s.version
+
+-- the batch is refused by the refusal of an edit, at its place, or before the first edit, at none
+abbrev pub IsBatchRefusal : State → List Edit → Refusal → Option ℕ → Type 0
+IsBatchRefusal s es r place = r ≢ refusal.Memory → (batch_refusal s es ≡ Some r) × (refused_place s es ≡ place)

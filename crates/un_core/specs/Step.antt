@@ -7,6 +7,7 @@ use Rattle.un_defs.specs.declared.edit.Edit.TheVariants as edit
 use Rattle.un_defs.specs.Features.{Features}
 use Rattle.un_defs.specs.Change.{Setting, Next, changed, after}
 use Rattle.un_defs.specs.Dirtied.{dirtied}
+use Rattle.un_defs.specs.Laws.{MayBeMade}
 use Rattle.un_ask.specs.declared.request.Command.{Command}
 use Rattle.un_ask.specs.declared.request.Command.TheVariants as command
 use Rattle.un_store.specs.Edits.{settled}
@@ -25,6 +26,10 @@ next_with s moment = record { feature = s.next_feature; association = s.next_ass
 
 abbrev pub next_of : State → Next
 next_of s = next_with s (s.version + 1)
+
+-- an edit that is made at a moment is one of which the laws of the topology speak
+abbrev pub MayBeMadeAt : ℕ → State → Edit → Type 0
+MayBeMadeAt moment s e = MayBeMade (setting s) (next_with s moment) s.features e
 
 -- the state once an edit is made at a moment: its features are changed, and its rectangles are the next dirty areas; the version stays
 abbrev pub made_at : ℕ → State → Edit → State

@@ -8,7 +8,7 @@ ghost use Rattle.un_trace.specs.TraceReply.{IsAnswerable};
 ghost use Rattle.un_loops.specs.Answer.{IsForLoops};
 ghost use Rattle.un_core.specs.Cover.{IsState};
 ghost use Rattle.un_core.specs.Listed.{errors_in};
-ghost use Rattle.un_core.specs.Answers.{is_taken, is_loops, MayWalk, untaken, query_refusal, refused, at_version, kept_survey, kept_basis, fresh_basis, reached_from, traced, trace_on, asked_on, answer_on, answer, reached_by};
+ghost use Rattle.un_core.specs.Answers.{is_taken, is_loops, MayWalk, untaken, query_refusal, refused, at_version, kept_survey, kept_basis, fresh_basis, reached_from, traced, trace_on, asked_on, answer_on, answer, reached_by, most_look_ups};
 
 use crate::kept::Kept;
 use crate::net::Net;
@@ -263,8 +263,7 @@ impl Net {
         ensures reply { IfOk result (λ reply. reply ≡ answer self.now query.now) }
         // A consistent trace is answered as over all features.
         ensures fresh { IfOk result (λ reply. reply ≡ answer_on self.now (fresh_basis self.now) query.now) }
-        // For each node that a trace reaches, one star is looked up for the walk and one for the answer.
-        ensures ticks { OnOk result (steps.new ≤ steps.old + 2 * length (reached_by self.now query.now.what)) }
+        ensures ticks { OnOk result (steps.new ≤ steps.old + most_look_ups self.now query.now) }
     {
         match self.query_refusal(query) {
             Some(refusal) => Ok(self.refused(refusal)),

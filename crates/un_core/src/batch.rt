@@ -2,14 +2,13 @@
 ghost use Rattle.std.specs.Prelude.{◌≡◌, ◌≢◌, ◌<◌, ◌≤◌, ◌++◌, ◌∷◌, [], true, length, All, Some, None, IfOk, OnOk, IfErr, option_to_list};
 ghost use Rattle.std.specs.Option.{option_map};
 ghost use Rattle.un_defs.specs.declared.refusal.Refusal.TheVariants.{Memory};
-ghost use Rattle.un_defs.specs.Laws.{MayBeMade};
 ghost use Rattle.un_defs.specs.Refusing.{first_refusal};
 ghost use Rattle.un_defs.specs.Dirtied.{dirtied};
 ghost use Rattle.un_facts.specs.Refusals.{is_of_features};
-ghost use Rattle.un_core.specs.Step.{setting, next_with, made_at, id_of, touched, made_by_all, ids_of_all, touched_by_all, dirtied_by_batch, batched};
+ghost use Rattle.un_core.specs.Step.{MayBeMadeAt, made_at, id_of, touched, made_by_all, ids_of_all, touched_by_all, dirtied_by_batch, batched};
 ghost use Rattle.un_core.specs.Cover.{MayAllBeMade};
 ghost use Rattle.un_core.specs.Making.{FeaturesGrow, AssociationsGrow, AreasGrow};
-ghost use Rattle.un_core.specs.Refusals.{beside_numbers, first_refused, batch_refusal, refused_place};
+ghost use Rattle.un_core.specs.Refusals.{Refuses, IsBatchRefusal, beside_numbers, first_refused, batch_refusal};
 
 use crate::edit::{Edited, reply_id, touched_row};
 use crate::net::Net;
@@ -72,9 +71,9 @@ impl Batched {
         ensures features { OnOk result (FeaturesGrow self.old.net self.new.net) }
         ensures associations { OnOk result (AssociationsGrow self.old.net self.new.net) }
         ensures areas { OnOk result (AreasGrow self.old.net self.new.net) }
-        ensures may { OnOk result (MayBeMade (setting self.old.net) (next_with self.old.net 0) self.old.net.features edit.now) }
+        ensures may { OnOk result (MayBeMadeAt 0 self.old.net edit.now) }
         ensures good { OnOk result (first_refusal (beside_numbers self.old.net edit.now) ≡ None) }
-        ensures bad { IfErr result (λ refusal. refusal ≢ Memory → first_refusal (beside_numbers self.old.net edit.now) ≡ Some refusal) }
+        ensures bad { Refuses result (first_refusal (beside_numbers self.old.net edit.now)) }
     {
         let ids = self.net.next_ids();
         add(&mut self.ids, Some(reply_id(edit, ids)))?;
@@ -157,7 +156,7 @@ impl Net {
         ensures ids { IfOk result (λ b. b.ids.items ≡ ids_of_all self.now edits.now) }
         ensures dirtied { IfOk result (λ b. b.dirtied.items ≡ dirtied_by_batch self.now edits.now) }
         ensures good { OnOk result (batch_refusal self.now edits.now ≡ None) }
-        ensures bad { IfErr result (λ f. f.refusal ≢ Memory → (batch_refusal self.now edits.now ≡ Some f.refusal) × (refused_place self.now edits.now ≡ f.place)) }
+        ensures bad { IfErr result (λ f. IsBatchRefusal self.now edits.now f.refusal f.place) }
     {
         if let Err(refusal) = self.check_numbers() {
             return Err(BatchFault {

@@ -1,13 +1,11 @@
 //! Edits of the features.
-ghost use Rattle.std.specs.Prelude.{◌≡◌, ◌≢◌, ◌<◌, ◌≤◌, ◌+◌, true, length, Some, None, IfOk, OnOk, IfErr};
-ghost use Rattle.un_defs.specs.declared.refusal.Refusal.TheVariants.{Memory};
-ghost use Rattle.un_defs.specs.Laws.{MayBeMade};
+ghost use Rattle.std.specs.Prelude.{◌≡◌, ◌<◌, ◌≤◌, ◌+◌, true, length, None, IfOk, OnOk};
 ghost use Rattle.un_defs.specs.Refusing.{first_refusal};
 ghost use Rattle.un_defs.specs.Dirtied.{dirtied};
 ghost use Rattle.un_dirty.specs.Areas.{added};
 ghost use Rattle.un_facts.specs.Refusals.{is_of_features};
-ghost use Rattle.un_core.specs.Step.{setting, next_with, made_at, edited, reply_id, touched_row};
-ghost use Rattle.un_core.specs.Refusals.{beside_numbers, edit_refusal, too_many};
+ghost use Rattle.un_core.specs.Step.{MayBeMadeAt, made_at, edited, reply_id, touched_row};
+ghost use Rattle.un_core.specs.Refusals.{Refuses, beside_numbers, edit_refusal, too_many};
 ghost use Rattle.un_core.specs.Making.{AreasGrow, FeaturesGrow, AssociationsGrow};
 
 use crate::net::Net;
@@ -79,7 +77,7 @@ fn with_areas(dirty: &Dirty, alloc: Global, rects: &[Rect]) -> Result<Dirty, Ref
     requires next { dirty.now.next < 9_000_000_000_100_000 }
     ensures list { IfOk result (λ d. d ≡ added dirty.now rects.now) }
     ensures good { OnOk result (too_many dirty.now.areas rects.now ≡ None) }
-    ensures bad { IfErr result (λ refusal. refusal ≢ Memory → too_many dirty.now.areas rects.now ≡ Some refusal) }
+    ensures bad { Refuses result (too_many dirty.now.areas rects.now) }
 {
     // For the proof alone.
     let _len = dirty.len();
@@ -105,9 +103,9 @@ impl Net {
         ensures features { IfOk result (λ m. FeaturesGrow self.now m.net) }
         ensures associations { IfOk result (λ m. AssociationsGrow self.now m.net) }
         ensures areas { IfOk result (λ m. AreasGrow self.now m.net) }
-        ensures may { OnOk result (MayBeMade (setting self.now) (next_with self.now moment) self.now.features edit.now) }
+        ensures may { OnOk result (MayBeMadeAt moment self.now edit.now) }
         ensures good { OnOk result (first_refusal (beside_numbers self.now edit.now) ≡ None) }
-        ensures bad { IfErr result (λ refusal. refusal ≢ Memory → first_refusal (beside_numbers self.now edit.now) ≡ Some refusal) }
+        ensures bad { Refuses result (first_refusal (beside_numbers self.now edit.now)) }
     {
         let Made { facts, dirtied } = self.facts.edit(alloc, edit, self.ids, moment)?;
         let dirty = with_areas(&self.dirty, alloc, &dirtied)?;
@@ -137,7 +135,7 @@ impl Net {
         ensures state { IfOk result (λ m. m.net ≡ edited self.now edit.now) }
         ensures dirtied { IfOk result (λ m. m.dirtied.items ≡ dirtied self.now.features edit.now) }
         ensures good { OnOk result (edit_refusal self.now edit.now ≡ None) }
-        ensures bad { IfErr result (λ refusal. refusal ≢ Memory → edit_refusal self.now edit.now ≡ Some refusal) }
+        ensures bad { Refuses result (edit_refusal self.now edit.now) }
     {
         self.check_numbers()?;
         let moment = self.version + 1;

@@ -1,12 +1,12 @@
 //! Validations.
-ghost use Rattle.std.specs.Prelude.{◌≡◌, ◌≢◌, ◌+◌, ◌≤◌, length, Some, None, IfOk, OnOk, IfErr};
+ghost use Rattle.std.specs.Prelude.{◌≡◌, ◌+◌, ◌≤◌, length, Some, None, IfOk, OnOk, IfErr};
 ghost use Rattle.std.specs.List.{sum_by};
 ghost use Rattle.un_defs.specs.declared.refusal.Refusal.TheVariants.{Memory};
 ghost use Rattle.std.specs.Arc.{arc_value};
 ghost use Rattle.un_defs.specs.Star.{star};
 ghost use Rattle.un_core.specs.State.{fresh_star};
 ghost use Rattle.un_core.specs.Validation.{validated, met, errors_under, AreRebuilt, IsKept};
-ghost use Rattle.un_core.specs.Refusals.{numbers_refusal};
+ghost use Rattle.un_core.specs.Refusals.{Refuses, numbers_refusal};
 
 use crate::net::Net;
 use std::alloc::{AllocError, Global};
@@ -78,7 +78,7 @@ impl Net {
         ensures cleared { IfOk result (λ v. v.cleared ≡ length (met extent self.now.areas)) }
         ensures errors { IfOk result (λ v. v.errors ≡ errors_under self.now (met extent self.now.areas)) }
         ensures good { OnOk result (numbers_refusal self.now ≡ None) }
-        ensures bad { IfErr result (λ refusal. refusal ≢ Memory → numbers_refusal self.now ≡ Some refusal) }
+        ensures bad { Refuses result (numbers_refusal self.now) }
     {
         self.check_numbers()?;
         let areas = self.dirty.meeting(alloc, extent)?;

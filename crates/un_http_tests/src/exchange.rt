@@ -1,4 +1,3 @@
-
 use std::alloc::{AllocError, Global};
 use std::sync::Wait;
 use un_http::{Head, Inbox, Next, next_request};

@@ -10,7 +10,10 @@ use Rattle.un_schema.specs.declared.place.Place.TheVariants as place
 use Rattle.un_schema.specs.Places.{place_text}
 use Rattle.un_ask.specs.declared.request.Request.{Request}
 use Rattle.un_ask.specs.declared.request.Request.TheVariants as request
+use Rattle.un_ask.specs.declared.reply.Reply.{Reply}
+use Rattle.un_ask.specs.declared.reply.Reply.TheVariants.{Refused}
 use Rattle.un_ask.specs.Words.{edit_named}
+use Rattle.un_defs.specs.declared.refusal.Refusal.TheVariants as refusal
 use Rattle.un_json.specs.declared.words.Word.{Word}
 use Rattle.un_json.specs.declared.words.Word.TheVariants.{Do, Ask}
 use Rattle.un_json.specs.declared.words.CommandWord.{CommandWord}
@@ -18,7 +21,7 @@ use Rattle.un_json.specs.declared.words.CommandWord.TheVariants as does
 use Rattle.un_json.specs.declared.words.QueryWord.{QueryWord}
 use Rattle.un_json.specs.declared.words.QueryWord.TheVariants as asks
 use Rattle.un_json.specs.declared.fault.ReadFault.{ReadFault}
-use Rattle.un_json.specs.declared.fault.ReadFault.TheVariants.{NotJson, BadRequest}
+use Rattle.un_json.specs.declared.fault.ReadFault.TheVariants.{NotJson, BadRequest, Memory}
 use Rattle.un_json.specs.Rows.{or_blame, mapped, and_then}
 use Rattle.un_json.specs.Table.{command_answer, query_answer}
 
@@ -84,3 +87,9 @@ asked_by (Some d) = or_fault (request_of d)
 -- what a text asks
 abbrev pub ask : List ℕ → Result Request ReadFault
 ask text = asked_by (json_of text)
+
+-- the reply to a text that is no request
+abbrev pub fault_reply : ReadFault → Reply
+fault_reply NotJson = Refused refusal.NotJson None 0
+fault_reply (BadRequest place) = Refused (refusal.BadRequest place) None 0
+fault_reply Memory = Refused refusal.Memory None 0

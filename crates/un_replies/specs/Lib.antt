@@ -4,3 +4,4 @@ pub mod Replies
 pub mod ReadBack
 pub mod Commands
 pub mod Pieces
+pub mod Lines

@@ -6,6 +6,7 @@ ghost use Rattle.un_replies.specs.Commands.{IsOfCommand, HasRefusalName, HasFewI
 ghost use Rattle.un_replies.specs.Replies.{print, stored_members, stored_status};
 
 use crate::member::{follow_count, follow_counts, follow_string, open_count, open_counts};
+use crate::names::names;
 use crate::put::put;
 use crate::refusal::put_refusal;
 use un_ask::{EditWord, Reply, StoredSubnet};
@@ -153,12 +154,13 @@ pub(crate) fn put_command(out: &mut Vec<u8>, reply: &Reply)
 #[tactic(auto, using(crate::proofs::Commands::few_fit))]
 pub fn print_command_reply(reply: &Reply, out: &mut Vec<u8>)
     requires command { IsOfCommand reply.now }
-    requires named { HasRefusalName reply.now }
     requires few { HasFewIds reply.now }
     requires room { vec_len out.old + COMMAND_REPLY_ROOM ≤ vec_capacity out.old }
     ensures text { out.new.items ≡ out.old.items ++ print reply.now }
     ensures short { length (print reply.now) < COMMAND_REPLY_ROOM }
     ensures capacity { vec_capacity out.old ≤ vec_capacity out.new }
 {
+    // For the proof alone.
+    names(reply);
     put_command(out, reply);
 }

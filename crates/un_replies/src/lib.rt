@@ -7,6 +7,7 @@ mod command;
 mod feature;
 pub mod laws;
 mod member;
+mod names;
 mod print;
 mod put;
 mod query;

@@ -4,6 +4,7 @@ ghost use Rattle.un_replies.specs.Commands.{IsOfCommand, HasRefusalName, command
 ghost use Rattle.un_replies.specs.Replies.{print};
 
 use crate::command::put_command;
+use crate::names::names;
 use crate::put::put;
 use crate::query::show_query;
 use json::Writer;
@@ -82,12 +83,13 @@ fn add_query(alloc: Global, reply: &Reply, out: &mut Vec<u8>) -> Result<(), Allo
 
 /// Adds the text of a reply, and has room for a line's end behind it. Want of memory changes nothing.
 pub fn print_reply(alloc: Global, reply: &Reply, out: &mut Vec<u8>) -> Result<(), AllocError>
-    requires { HasRefusalName reply.now }
     ensures ok { OnOk result (out.new.items ≡ out.old.items ++ print reply.now) }
     ensures room { OnOk result (vec_len out.new < vec_capacity out.new) }
     ensures err { OnErr result (out.new.items ≡ out.old.items) }
     ensures capacity { vec_capacity out.old ≤ vec_capacity out.new }
 {
+    // For the proof alone.
+    names(reply);
     if is_of_command(reply) {
         add_command(reply, out)
     } else {

@@ -2,7 +2,6 @@
 ghost use Rattle.std.specs.Prelude.{◌≡◌, [], ◌∷◌, IfOk};
 ghost use Rattle.un_schema.specs.Names.{IsName};
 ghost use Rattle.un_ask.specs.declared.reply.Reply.TheVariants.{Edited};
-ghost use Rattle.un_replies.specs.Commands.{HasRefusalName};
 
 use std::alloc::Global;
 use std::test::Fail;
@@ -18,17 +17,13 @@ mod read_back;
 mod refusals;
 
 // Whether the reply is printed so.
-fn prints(alloc: Global, reply: &Reply, text: &[u8]) -> bool
-    requires { HasRefusalName reply.now }
-{
+fn prints(alloc: Global, reply: &Reply, text: &[u8]) -> bool {
     let mut out = Vec::new(alloc);
     print_reply(alloc, reply, &mut out).is_ok() && out.as_slice() == text
 }
 
 // Whether the reply and a copy of it are printed so.
-fn gives(alloc: Global, reply: &Reply, text: &[u8]) -> bool
-    requires { HasRefusalName reply.now }
-{
+fn gives(alloc: Global, reply: &Reply, text: &[u8]) -> bool {
     let Ok(copy) = reply.copy(alloc) else {
         return false;
     };

@@ -11,12 +11,12 @@ use Rattle.un_ask.specs.declared.request.Command.{Command}
 use Rattle.un_ask.specs.declared.request.Request.{Request as Asked}
 use Rattle.un_ask.specs.declared.reply.Reply.{Reply}
 use Rattle.un_json.specs.declared.fault.ReadFault.{ReadFault}
-use Rattle.un_json.specs.Requests.{ask}
+use Rattle.un_json.specs.Requests.{ask, fault_reply}
 use Rattle.un_replies.specs.Replies.{print}
 use Rattle.un_tiers.specs.declared.setup.Setup.{Setup}
 use Rattle.un_core.specs.State.{State}
 use Rattle.un_core.specs.Requests.{reply_after, history_behind, IsFaithful}
-use Rattle.un_script.specs.Script.{script, setup_of, fault_reply}
+use Rattle.un_script.specs.Script.{script, setup_of}
 
 -- what a script has come to: its schema and tiers, and its accepted commands, the last one first
 pub record History : Type 0 where

@@ -1,4 +1,3 @@
 pub mod Script
 pub mod History
-pub mod OneLine
 pub mod Replies

@@ -15,8 +15,7 @@ use Rattle.un_ask.specs.declared.request.Request.{Request as Asked}
 use Rattle.un_ask.specs.declared.reply.Reply.{Reply}
 use Rattle.un_ask.specs.declared.reply.Reply.TheVariants.{Refused}
 use Rattle.un_json.specs.declared.fault.ReadFault.{ReadFault}
-use Rattle.un_json.specs.declared.fault.ReadFault.TheVariants.{NotJson, BadRequest, Memory}
-use Rattle.un_json.specs.Requests.{ask}
+use Rattle.un_json.specs.Requests.{ask, fault_reply}
 use Rattle.un_replies.specs.Replies.{print}
 use Rattle.un_tiers.specs.declared.setup.Setup.{Setup}
 use Rattle.un_core.specs.State.{State, opening}
@@ -43,12 +42,6 @@ abbrev pub bad_schema : Place → Reply
 bad_schema place = Refused (refusal.BadSchema place) None 0
 
 -- ---- later lines
-
--- the refusal of a line that is no request
-abbrev pub fault_reply : ReadFault → Reply
-fault_reply NotJson = Refused refusal.NotJson None 0
-fault_reply (BadRequest place) = Refused (refusal.BadRequest place) None 0
-fault_reply Memory = Refused refusal.Memory None 0
 
 -- the reply to what a line asks
 abbrev pub reply_to_line : State → Result Asked ReadFault → Reply

@@ -7,13 +7,13 @@ ghost use Rattle.std.specs.Prelude.{◌≡◌, ◌≢◌, ℕ, ◌+◌, ◌<◌,
 ghost use Rattle.un_schema_json.specs.Lines.{schema_of};
 ghost use Rattle.un_schema.specs.declared.place.Place.TheVariants as place;
 ghost use Rattle.un_ask.specs.declared.request.Request.TheVariants.{Command as OfCommand};
-ghost use Rattle.un_json.specs.Requests.{ask};
-ghost use Rattle.un_replies.specs.Commands.{IsOfCommand, HasRefusalName, HasFewIds};
+ghost use Rattle.un_json.specs.Requests.{ask, fault_reply};
+ghost use Rattle.un_replies.specs.Commands.{IsOfCommand, HasFewIds};
 ghost use Rattle.un_replies.specs.Replies.{print};
 ghost use Rattle.un_ask.specs.Replies.{HasFewEdits};
 ghost use Rattle.un_core.specs.Commands.{command_reply, state_after};
 ghost use Rattle.un_core.specs.Answers.{answer};
-ghost use Rattle.un_script.specs.Script.{bad_schema, fault_reply, reply_to_line, state_behind_line};
+ghost use Rattle.un_script.specs.Script.{bad_schema, reply_to_line, state_behind_line};
 
 use std::alloc::{AllocError, Global};
 use std::marker::PhantomData;
@@ -57,7 +57,6 @@ impl<'a, L> Script<'a, L> {
 // Adds the reply of a command, with its line's end. It takes no memory.
 fn print_line(reply: &Reply, out: &mut Vec<u8>)
     requires command { IsOfCommand reply.now }
-    requires named { HasRefusalName reply.now }
     requires few { HasFewIds reply.now }
     requires room { vec_len out.old + REPLY_ROOM ≤ vec_capacity out.old }
     ensures text { out.new.items ≡ out.old.items ++ (print reply.now ++ 10 ∷ []) }
@@ -69,7 +68,6 @@ fn print_line(reply: &Reply, out: &mut Vec<u8>)
 
 // Adds the reply of a query, with its line's end. Want of memory changes nothing.
 fn print_answer(alloc: Global, reply: &Reply, out: &mut Vec<u8>) -> Result<(), AllocError>
-    requires named { HasRefusalName reply.now }
     ensures ok { OnOk result (out.new.items ≡ out.old.items ++ (print reply.now ++ 10 ∷ [])) }
     ensures err { OnErr result (out.new.items ≡ out.old.items) }
     ensures capacity { vec_capacity out.old ≤ vec_capacity out.new }
@@ -97,36 +95,6 @@ fn print_bad_schema(place: Place, out: &mut Vec<u8>)
     ensures capacity { vec_capacity out.old ≤ vec_capacity out.new }
 {
     print_line(&refused(Refusal::BadSchema { place }), out);
-}
-
-// The name that a refusal carries has the form of a name, as each name has.
-fn names(reply: &Reply)
-    ensures { HasRefusalName reply.now }
-{
-    match reply {
-        Reply::Refused {
-            refusal: Refusal::NoSuchKind { kind },
-            ..
-        } => {
-            // For the proof alone.
-            let _text = kind.text();
-        }
-        Reply::Refused {
-            refusal: Refusal::BadAttribute { attribute },
-            ..
-        } => {
-            // For the proof alone.
-            let _text = attribute.text();
-        }
-        Reply::Refused {
-            refusal: Refusal::Conflict { subnet, .. },
-            ..
-        } => {
-            // For the proof alone.
-            let _text = subnet.text();
-        }
-        _ => {}
-    }
 }
 
 // A batch has few edits, as each batch has.
@@ -160,12 +128,10 @@ fn apply(
             reply,
             mark: _mark,
         } => {
-            names(&reply);
             print_line(&reply, out);
             *net = next;
         }
         Applied::Refused { reply } => {
-            names(&reply);
             print_line(&reply, out);
         }
     }
@@ -185,7 +151,6 @@ fn tell<L>(
     ensures capacity { vec_capacity out.old ≤ vec_capacity out.new }
 {
     let reply = net.answer(alloc, query, steps)?;
-    names(&reply);
     print_answer(alloc, &reply, out)
 }
 
@@ -197,12 +162,8 @@ fn refuse(fault: ReadFault, out: &mut Vec<u8>) -> Result<(), AllocError>
     ensures capacity { vec_capacity out.old ≤ vec_capacity out.new }
     ensures fault { OnOk result (fault ≢ ReadFault.Memory) }
 {
-    let refusal = match fault {
-        ReadFault::NotJson => Refusal::NotJson,
-        ReadFault::BadRequest { place } => Refusal::BadRequest { place },
-        ReadFault::Memory => return Err(AllocError),
-    };
-    print_line(&refused(refusal), out);
+    let reply = fault.reply()?;
+    print_line(&reply, out);
     Ok(())
 }
 

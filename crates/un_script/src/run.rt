@@ -60,7 +60,7 @@ pub fn run_script<S: Source, K: Sink, L>(
         (λ read out. (length read < 2 ^ 32) × IsUnrefusedBy by_history read out) }
     ensures source_cause { result ≡ 3 → Rose (S.faults source.old) (S.faults source.new) }
 
-    // 4: the sink failed. The front of what is due is written, and some of it is not.
+    // 4: the sink failed. A prefix of what is due is written, and some of it is not.
     ensures sink_fault { result ≡ 4 → Ran (S.left source.old) (S.left source.new) (K.taken sink.old) (K.taken sink.new)
         (λ read out. (length read ≤ 2 ^ 32) × IsCutShort script read true out × (IsCutShort script read false out ⊎ IsAtEnd (S.left source.new))) }
     ensures sink_fault_by_history { result ≡ 4 → Ran (S.left source.old) (S.left source.new) (K.taken sink.old) (K.taken sink.new)

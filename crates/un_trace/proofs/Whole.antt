@@ -51,9 +51,9 @@ result_is G ask reached seen reply w =
     let functions : reply.functions ≡ map (total G (nodes_of seen)) ask.functions =
     w.functions ∙ ap (λ fs. map (total_of fs w.count) ask.functions) w.firsts_are
     ∙ totals_are G seen each w.count (w.counted ∙ parts_count (nodes_of seen)) ask.functions in
-    let trace_reply : reply ≡ result_of G ask (nodes_of seen) =
+    let same : reply ≡ result_of G ask (nodes_of seen) =
     λ i. reply_with (containers i) (content i) (w.features i) (functions i) (w.kind i) (structures i) in
-    trace_reply ∙ ap (result_of G ask) w.nodes
+    same ∙ ap (result_of G ask) w.nodes
 
 pub on_ok_map : {T E : Type 0} (r : Result T E) (P Q : Type 0) → (P → Q) → OnOk r P → OnOk r Q
 on_ok_map (Ok x) P Q f h = f h

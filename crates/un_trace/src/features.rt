@@ -76,7 +76,7 @@ fn first_entry<'a>(run: &[Seen<'a>]) -> Option<&'a Spot>
 pub(crate) fn features_of<'a>(alloc: Global, seen: &[Seen<'a>]) -> Result<Features<'a>, AllocError>
     requires { IsStrictlySortedBy node_cmp (nodes_of seen.now) }
     ensures parts { IfOk result (λ found. found.parts.items ≡ parts (nodes_of seen.now)) }
-    ensures firsts { IfOk result (λ trace_reply. map deref trace_reply.firsts.items
+    ensures firsts { IfOk result (λ found. map deref found.firsts.items
         ≡ filter_map (first_spot seen.now) (feature_ids (nodes_of seen.now))) }
 {
     let mut features = Features {

@@ -1,5 +1,4 @@
 //! What is printed of a reply, as `serde_json` reads it.
-ghost use Rattle.un_replies.specs.Commands.{HasRefusalName};
 
 use super::edited;
 use super::queries::{feature, traced};
@@ -11,18 +10,14 @@ use un_defs::Refusal;
 use un_replies::print_reply;
 
 // The value that is read of the reply's text.
-fn read(alloc: Global, reply: &Reply) -> Option<Value>
-    requires { HasRefusalName reply.now }
-{
+fn read(alloc: Global, reply: &Reply) -> Option<Value> {
     let mut out = Vec::new(alloc);
     print_reply(alloc, reply, &mut out).ok()?;
     Value::from_slice(alloc, out.as_slice()).ok()
 }
 
 // Whether this number is read at a place of the reply's text.
-fn has_number(alloc: Global, reply: &Reply, place: &str, number: u64) -> bool
-    requires { HasRefusalName reply.now }
-{
+fn has_number(alloc: Global, reply: &Reply, place: &str, number: u64) -> bool {
     match read(alloc, reply) {
         Some(value) => value.pointer(place).and_then(Value::as_u64) == Some(number),
         None => false,

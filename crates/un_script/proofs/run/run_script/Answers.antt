@@ -1,6 +1,6 @@
 use Rattle.std.proofs.Common.{◌≡◌, ◌⊎◌, inl, inr, lit<, refl}
 use Rattle.un_lines.specs.declared.run.Ending.TheVariants.{Ended, Refused, Memory, Limit}
-use Rattle.un_lines.proofs.Public.{Ran-weaker}
+use Rattle.un_lines.specs.Ending.{Ran-weaker}
 use Rattle.un_script.proofs.Refusals.{refused_alone, served_opened, served_unrefused}
 use Rattle.un_script.proofs.History.{ended_so, lines_so, cuts_so}
 use Rattle.un_script.proofs.run.run_script.Goals as goal

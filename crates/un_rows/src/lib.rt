@@ -1,0 +1,5 @@
+//! Tests of a network at a desk of sessions.
+#![tactic(auto)]
+
+#[cfg(test)]
+mod desk;
