@@ -1,9 +1,10 @@
 -- How the lists of the links of nodes grow.
-use Rattle.std.proofs.Common.{◌≡◌, ◌≢◌, ℕ, zero, suc, ◌+◌, ◌<◌, inl, inr, List, [], ◌∷◌, ◌++◌, length, set, Some, Vec, Global, refl, sym, ap, subst, ◌∙◌, arith}
+use Rattle.std.proofs.Common.{◌≡◌, ◌≢◌, ℕ, zero, suc, ◌+◌, ◌<◌, inl, inr, List, [], ◌∷◌, ◌++◌, length, set, Some, refl, sym, ap, subst, ◌∙◌, arith}
 use Rattle.std.specs.Prelude.{slice_get, Contains}
 use Rattle.std.proofs.lemmas.Bool.{cases_eq}
 use Rattle.std.proofs.lemmas.List.{length-set}
 use Rattle.std.proofs.lemmas.List.Elements.{Contains-append_left, Contains-push, Contains-push_cases}
+use Rattle.smallvec.specs.SmallVec.{SmallVec}
 use Rattle.un_loops.specs.declared.link.Link.{Link}
 use Rattle.un_loops.specs.Graph.{Joins}
 use Rattle.un_loops.specs.Incidence.{IsIncident, AreIncident, AddsLink}
@@ -23,16 +24,16 @@ slice_get-set_other (x ∷ xs) (suc i) zero y ne = refl
 slice_get-set_other (x ∷ xs) (suc i) (suc k) y ne = slice_get-set_other xs i k y (λ e. ne (ap suc e))
 
 -- one more list, which is empty
-pub empty_more : (rows : List (Vec ℕ Global)) (row : Vec ℕ Global) → row.items ≡ [] → ((u j : ℕ) → IsIncident rows u j → ⊥) → (u j : ℕ) → IsIncident (rows ++ row ∷ []) u j → ⊥
+pub empty_more : (rows : List (SmallVec ℕ)) (row : SmallVec ℕ) → row.items ≡ [] → ((u j : ℕ) → IsIncident rows u j → ⊥) → (u j : ℕ) → IsIncident (rows ++ row ∷ []) u j → ⊥
 empty_more rows row none empty u j (other, at, has) = elim (slice_get-push_cases rows row u other at) [
   | inl before ↦ empty u j (other, before, has)
   | inr same ↦
-      let items : other.items ≡ [] = ap (λ (r : Vec ℕ Global). r.items) (sym same) ∙ none in
+      let items : other.items ≡ [] = ap (λ (r : SmallVec ℕ). r.items) (sym same) ∙ none in
       absurd (omega (arith, has.1, ap length items))
 ]
 
 -- one list gets one more link
-pub adds_link : (rows : List (Vec ℕ Global)) (node index : ℕ) (row more : Vec ℕ Global) → node < length rows → slice_get rows node ≡ Some row → more.items ≡ row.items ++ index ∷ [] → AddsLink rows (set rows node more) node index
+pub adds_link : (rows : List (SmallVec ℕ)) (node index : ℕ) (row more : SmallVec ℕ) → node < length rows → slice_get rows node ≡ Some row → more.items ≡ row.items ++ index ∷ [] → AddsLink rows (set rows node more) node index
 adds_link rows node index row more inside at items = record {
   count = length-set rows node more;
   kept = λ u j (r, r_at, has). elim (cases_eq u node) [
@@ -40,7 +41,7 @@ adds_link rows node index row more inside at items = record {
         let same : row ≡ r = let there : slice_get rows node ≡ Some r = subst (λ k. slice_get rows k ≡ Some r) e r_at in cc in (
           more,
           subst (λ k. slice_get (set rows node more) k ≡ Some more) (sym e) here,
-          subst (λ xs. Contains xs j) (sym items) (Contains-append_left row.items (index ∷ []) j (subst (λ (v : Vec ℕ Global). Contains v.items j) (sym same) has)),
+          subst (λ xs. Contains xs j) (sym items) (Contains-append_left row.items (index ∷ []) j (subst (λ (v : SmallVec ℕ). Contains v.items j) (sym same) has)),
         )
     | inr ne ↦ (r, slice_get-set_other rows node u more ne ∙ r_at, has)
   ];
@@ -48,7 +49,7 @@ adds_link rows node index row more inside at items = record {
   only = λ u j (r, r_at, has). elim (cases_eq u node) [
     | inl e ↦
         let same : more ≡ r = let there : slice_get (set rows node more) node ≡ Some r = subst (λ k. slice_get (set rows node more) k ≡ Some r) e r_at in let h : slice_get (set rows node more) node ≡ Some more = here in cc in
-        elim (Contains-push_cases row.items index j (subst (λ xs. Contains xs j) items (subst (λ (v : Vec ℕ Global). Contains v.items j) (sym same) has))) [
+        elim (Contains-push_cases row.items index j (subst (λ xs. Contains xs j) items (subst (λ (v : SmallVec ℕ). Contains v.items j) (sym same) has))) [
           | inl before ↦ inl (row, subst (λ k. slice_get rows k ≡ Some row) (sym e) at, before)
           | inr is ↦ inr (e, sym is)
         ]
@@ -60,7 +61,7 @@ adds_link rows node index row more inside at items = record {
     here = slice_get-set_same rows node more inside
 
 module _ (links : List Link) (nodes : ℕ) where
-  pub ties_none : (rows : List (Vec ℕ Global)) → length rows ≡ nodes → ((u j : ℕ) → IsIncident rows u j → ⊥) → AreIncident links rows nodes 0
+  pub ties_none : (rows : List (SmallVec ℕ)) → length rows ≡ nodes → ((u j : ℕ) → IsIncident rows u j → ⊥) → AreIncident links rows nodes 0
   ties_none rows count empty = record {
     count = count;
     listed = λ j u v low joins. absurd (omega arith);
@@ -68,7 +69,7 @@ module _ (links : List Link) (nodes : ℕ) where
   }
 
   -- the next link stands at both its ends
-  pub ties_more : (rows next last : List (Vec ℕ Global)) (l : Link) (k m : ℕ) → m ≡ k + 1 → slice_get links k ≡ Some l → AreIncident links rows nodes k → AddsLink rows next l.a k → AddsLink next last l.b k → AreIncident links last nodes m
+  pub ties_more : (rows next last : List (SmallVec ℕ)) (l : Link) (k m : ℕ) → m ≡ k + 1 → slice_get links k ≡ Some l → AreIncident links rows nodes k → AddsLink rows next l.a k → AddsLink next last l.b k → AreIncident links last nodes m
   ties_more rows next last l k m is at so_far one other = record {
     count = other.count ∙ one.count ∙ so_far.count;
     listed = λ j u v low joins. elim (cases_eq j k) [

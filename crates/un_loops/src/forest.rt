@@ -9,7 +9,7 @@ ghost use Rattle.un_loops.specs.Renumbering.{IsMoved, AreRenumbered, place_of_no
 ghost use Rattle.un_loops.specs.Incidence.{AreIncident};
 
 use crate::growth::Growth;
-use crate::incidence::incidence_lists;
+use crate::incidence::{LinksOfNode, incidence_lists};
 use crate::link::Link;
 use std::alloc::{AllocError, Global};
 
@@ -39,7 +39,7 @@ pub(crate) struct Forest {
 fn grow_all(
     growth: &mut Growth,
     links: &[Link],
-    incident: &[Vec<usize>],
+    incident: &[LinksOfNode],
     nodes: usize,
 ) -> Result<(), AllocError>
     requires new { IsWhole links.now growth.old.place_of.items growth.old.places.items nodes 0 }
@@ -71,6 +71,17 @@ fn moved(alloc: Global, links: &[Link], place_of: &[Option<usize>]) -> Result<Ve
     Ok(new)
 }
 
+/// The places of all nodes. The lists of the links of nodes are dropped here, before the links are copied.
+fn grown(alloc: Global, nodes: usize, links: &[Link]) -> Result<Growth, AllocError>
+    requires { HaveEndsBelow links.now nodes }
+    ensures { IfOk result (λ g. IsWhole links.now g.place_of.items g.places.items nodes nodes) }
+{
+    let incident = incidence_lists(alloc, nodes, links)?;
+    let mut growth = Growth::new(alloc, nodes)?;
+    grow_all(&mut growth, links, &incident, nodes)?;
+    Ok(growth)
+}
+
 /// A forest that spans the graph, with the graph's links between its places.
 pub(crate) fn spanning_forest(
     alloc: Global,
@@ -81,9 +92,7 @@ pub(crate) fn spanning_forest(
     ensures forest { IfOk result (λ f. IsForest f.links.items f.places.items) }
     ensures renumbered { IfOk result (λ f. AreRenumbered links.now f.links.items) }
 {
-    let incident = incidence_lists(alloc, nodes, links)?;
-    let mut growth = Growth::new(alloc, nodes)?;
-    grow_all(&mut growth, links, &incident, nodes)?;
+    let growth = grown(alloc, nodes, links)?;
     let moved = moved(alloc, links, &growth.place_of)?;
     let Growth {
         place_of: _,

@@ -7,6 +7,7 @@ ghost use Rattle.un_loops.specs.Incidence.{AreIncident};
 ghost use Rattle.un_loops.specs.Growth.{HasPlace, IsGrown, Grows};
 
 use crate::forest::{Parent, Place};
+use crate::incidence::LinksOfNode;
 use crate::link::Link;
 use std::alloc::{AllocError, Global};
 
@@ -23,7 +24,7 @@ impl Growth {
     {
         Ok(Growth {
             place_of: vec![in alloc; None; nodes]?,
-            places: Vec::new(alloc),
+            places: Vec::with_capacity(alloc, nodes)?,
         })
     }
 
@@ -78,7 +79,7 @@ impl Growth {
     pub(crate) fn grow(
         &mut self,
         links: &[Link],
-        incident: &[Vec<usize>],
+        incident: &[LinksOfNode],
         start: usize,
     ) -> Result<(), AllocError>
         requires inside { start < length self.old.place_of.items }
@@ -103,7 +104,7 @@ impl Growth {
         let mut next = root;
         while next < self.places.len() {
             let node = self.places[next].node;
-            self.follow(links, &incident[node], next)?;
+            self.follow(links, incident[node].as_slice(), next)?;
             next += 1;
         }
         Ok(())

@@ -5,9 +5,13 @@ ghost use Rattle.un_loops.specs.Graph.{HaveEndsBelow};
 ghost use Rattle.un_loops.specs.Incidence.{AreIncident, AddsLink, IsIncident};
 
 use crate::link::Link;
+use smallvec::SmallVec;
 use std::alloc::{AllocError, Global};
 
-fn add_to_list(rows: &mut [Vec<usize>], node: usize, index: usize) -> Result<(), AllocError>
+/// The links of a node, by their indices. Up to four lie in the value itself.
+pub(crate) type LinksOfNode = SmallVec<usize, 4>;
+
+fn add_to_list(rows: &mut [LinksOfNode], node: usize, index: usize) -> Result<(), AllocError>
     requires { node < length rows.old }
     ensures { OnOk result (AddsLink rows.old rows.new node index) }
 {
@@ -15,18 +19,18 @@ fn add_to_list(rows: &mut [Vec<usize>], node: usize, index: usize) -> Result<(),
     Ok(())
 }
 
-fn empty_rows(alloc: Global, nodes: usize) -> Result<Vec<Vec<usize>>, AllocError>
+fn empty_rows(alloc: Global, nodes: usize) -> Result<Vec<LinksOfNode>, AllocError>
     ensures count { IfOk result (λ rows. length rows.items ≡ nodes) }
     ensures empty { IfOk result (λ rows. (u j : ℕ) → IsIncident rows.items u j → ⊥) }
 {
     let mut rows = Vec::with_capacity(alloc, nodes)?;
     for _node in 0..nodes {
-        rows.push(Vec::new(alloc))?;
+        rows.push(SmallVec::new(alloc))?;
     }
     Ok(rows)
 }
 
-fn add_all(rows: &mut [Vec<usize>], links: &[Link]) -> Result<(), AllocError>
+fn add_all(rows: &mut [LinksOfNode], links: &[Link]) -> Result<(), AllocError>
     requires ends { HaveEndsBelow links.now (length rows.old) }
     requires empty { (u j : ℕ) → IsIncident rows.old u j → ⊥ }
     ensures { OnOk result (AreIncident links.now rows.new (length rows.old) (length links.now)) }
@@ -44,7 +48,7 @@ pub(crate) fn incidence_lists(
     alloc: Global,
     nodes: usize,
     links: &[Link],
-) -> Result<Vec<Vec<usize>>, AllocError>
+) -> Result<Vec<LinksOfNode>, AllocError>
     requires { HaveEndsBelow links.now nodes }
     ensures { IfOk result (λ rows. AreIncident links.now rows.items nodes (length links.now)) }
 {

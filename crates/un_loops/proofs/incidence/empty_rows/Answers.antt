@@ -1,5 +1,6 @@
-use Rattle.std.proofs.Common.{ℕ, List, Vec, Global, length, ap, arith, subst, sym}
+use Rattle.std.proofs.Common.{ℕ, List, length, ap, arith, subst, sym}
 use Rattle.std.proofs.lemmas.List.{length_push}
+use Rattle.smallvec.specs.SmallVec.{SmallVec}
 use Rattle.un_loops.specs.Incidence.{IsIncident}
 use Rattle.un_loops.proofs.LinkLists.{empty_more}
 use Rattle.un_loops.proofs.incidence.empty_rows.Goals as goal
@@ -10,5 +11,5 @@ loop-node-preserved c =
     let e = c.in_ok-push.ensures in
     record {
       count = omega (arith, ap length e.items, length_push old c.new.result, c.loop-node.invariant.count);
-      empty = subst (λ (rows : List (Vec ℕ Global)). (u j : ℕ) → IsIncident rows u j → ⊥) (sym e.items) (empty_more old c.new.result c.new.ensures.items c.loop-node.invariant.empty);
+      empty = subst (λ (rows : List (SmallVec ℕ)). (u j : ℕ) → IsIncident rows u j → ⊥) (sym e.items) (empty_more old c.new.result c.new.ensures.items c.loop-node.invariant.empty);
     }

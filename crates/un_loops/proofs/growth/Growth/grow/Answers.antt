@@ -1,7 +1,8 @@
-use Rattle.std.proofs.Common.{◌≡◌, ℕ, ◌<◌, ◌≤◌, List, Vec, Global, length, get_or, Option, None, Some, refl, sym, ap, subst, subst₂, arith, rules}
+use Rattle.std.proofs.Common.{◌≡◌, ℕ, ◌<◌, ◌≤◌, List, length, get_or, Option, None, Some, refl, sym, ap, subst, subst₂, arith, rules}
 use Rattle.std.specs.Prelude.{slice_get, Contains}
 use Rattle.std.proofs.lemmas.List.{get_or_read}
 use Rattle.std.proofs.lemmas.Option.{slice_get_read}
+use Rattle.smallvec.specs.SmallVec.{SmallVec}
 use Rattle.un_loops.specs.declared.link.Link.{Link}
 use Rattle.un_loops.specs.declared.forest.Place.{Place}
 use Rattle.un_loops.specs.Graph.{Joins}
@@ -33,7 +34,7 @@ loop-next-init c =
     }
 
 -- the node of a place has a list of links
-row_of : (links : List Link) (incident : List (Vec ℕ Global)) (place_of first : List (Option ℕ)) (places : List Place) (next root : ℕ) (place : Place)
+row_of : (links : List Link) (incident : List (SmallVec ℕ)) (place_of first : List (Option ℕ)) (places : List Place) (next root : ℕ) (place : Place)
     → next < length places → place ≡ get_or places next place → IsGrown links place_of places next root → length place_of ≡ length first → AreIncident links incident (length first) (length links)
     → (place ≡ place_at places next) × (place.node < length incident)
 row_of links incident place_of first places next root place inside read grown count are =
@@ -65,7 +66,7 @@ follow-requires-clause-only c = λ j has.
     inside c.index.ensures c.loop-next.invariant.grown c.loop-next.invariant.grows.count c.requires.incident in
     let at : slice_get incident place.node ≡ Some c.index-incident-node.result = slice_get_read incident (length incident) place.node c.index-incident-node.result refl row.1 c.index-incident-node.is in
     subst (λ (p : Place). (v : ℕ) × Joins links j p.node v) row.0
-    (c.requires.incident.only place.node j (c.index-incident-node.result, at, subst (λ xs. Contains xs j) c.deref.ensures.value has))
+    (c.requires.incident.only place.node j (c.index-incident-node.result, at, subst (λ xs. Contains xs j) c.as_slice.ensures has))
 
 pub follow-requires-clause-listed : goal.follow-requires-clause-listed
 follow-requires-clause-listed c = λ j v joins.
@@ -78,11 +79,11 @@ follow-requires-clause-listed c = λ j v joins.
     let at : slice_get incident place.node ≡ Some c.index-incident-node.result = slice_get_read incident (length incident) place.node c.index-incident-node.result refl row.1 c.index-incident-node.is in
     let here : Joins links j place.node v = subst (λ (p : Place). Joins links j p.node v) (sym row.0) joins in
     let tie = c.requires.incident.listed j place.node v (joins_within links j place.node v here) here in
-    let other : Vec ℕ Global = tie.0 in
+    let other : SmallVec ℕ = tie.0 in
     let at_other : slice_get incident place.node ≡ Some other = tie.1 in
     let same : other ≡ c.index-incident-node.result = cc in
-    let has : Contains c.index-incident-node.result.items j = subst (λ (r : Vec ℕ Global). Contains r.items j) {x = other} same tie.2 in
-    subst (λ xs. Contains xs j) (sym c.deref.ensures.value) has
+    let has : Contains c.index-incident-node.result.items j = subst (λ (r : SmallVec ℕ). Contains r.items j) {x = other} same tie.2 in
+    subst (λ xs. Contains xs j) (sym c.as_slice.ensures) has
 
 pub returns-clause-grown : goal.returns-clause-grown
 returns-clause-grown c =
