@@ -1,12 +1,12 @@
 -- What comes to a door, what that means for its count of faults, and what a door in memory gives.
-use Rattle.std.specs.Prelude.{◌≡◌, ℕ, ◌≤◌, Bool, true, if◌then◌else◌, List, [], ◌∷◌, drop}
+use Rattle.std.specs.Prelude.{◌≡◌, ℕ, ◌≤◌, Bool, true, false, if◌then◌else◌, List, [], ◌∷◌, drop}
 use Rattle.un_io.specs.declared.door.Came.{Came}
 use Rattle.un_io.specs.declared.door.Came.TheVariants.{Line, Closed, Failed}
 use Rattle.un_io.specs.Outside.{Rose}
 use Rattle.un_io.specs.Plans.{fails, one_more}
-use Rattle.un_io.specs.States.{Ends, Queue}
+use Rattle.un_io.specs.States.{Ends, Queue, Schedule}
 
--- the count of faults doesn't fall, and a call that failed has raised it
+-- the count of faults never falls, and a failed call has raised it
 abbrev pub CountsCame : {L : Type 0} → ℕ → ℕ → Came L → Type 0
 CountsCame old new Failed = (old ≤ new) × Rose old new
 CountsCame old new Closed = new ≡ old
@@ -22,6 +22,16 @@ Closes old new (Line link) = new ≡ old
 abbrev pub first_link : List Ends → Came Ends
 first_link [] = Closed
 first_link (link ∷ links) = Line link
+
+-- a door at which these links will arrive, before its first call
+abbrev pub new_door : List Ends → Schedule → Queue
+new_door arriving schedule = record {
+  links = arriving;
+  plan = schedule;
+  calls = 0;
+  faults = 0;
+  closed = false;
+}
 
 -- what comes next to a door in memory
 abbrev pub next_came : Queue → Came Ends

@@ -1,10 +1,10 @@
-//! The front of some bytes, in room that was taken beforehand.
+//! A buffer of a fixed size, allocated up front.
 ghost use Rattle.std.specs.Prelude.{◌≡◌, ◌+◌, ◌≤◌, [], ◌++◌, length, IfOk};
 
 use std::alloc::{AllocError, Global};
 use std::marker::Model;
 
-/// Bytes in memory, and for how many there is room. Keeping them takes no memory.
+/// Bytes in memory, and how many of them there is room for. Adding bytes allocates nothing.
 #[derive(Drop)]
 pub(crate) struct Buffer {
     bytes: Vec<u8>,
@@ -23,7 +23,7 @@ impl Model for Buffer {
 }
 
 impl Buffer {
-    /// Room for so many bytes, of which none is there.
+    /// An empty buffer with room for `room` bytes.
     pub(crate) fn new(alloc: Global, room: usize) -> Result<Buffer, AllocError>
         ensures { IfOk result (λ buffer. buffer ≡ record { bytes = []; room = room }) }
     {
@@ -33,14 +33,14 @@ impl Buffer {
         })
     }
 
-    /// For how many more bytes there is room.
+    /// How many more bytes there is room for.
     pub(crate) fn spare(&self) -> usize
         ensures { length self.now.bytes + result ≡ self.now.room }
     {
         self.room - self.bytes.len()
     }
 
-    /// Keeps the piece behind the others.
+    /// Appends the piece.
     pub(crate) fn keep(&mut self, piece: &[u8])
         requires { length self.old.bytes + length piece.now ≤ self.old.room }
         ensures { self.new ≡ record self.old { bytes = self.old.bytes ++ piece.now } }

@@ -1,6 +1,6 @@
 //! Doors: what links arrive at, such as TCP listeners.
 ghost use Rattle.std.specs.Prelude.{◌≡◌, ℕ, Bool, false};
-ghost use Rattle.un_io.specs.Doors.{CountsCame, Closes, next_came, door_behind};
+ghost use Rattle.un_io.specs.Doors.{CountsCame, Closes, new_door, next_came, door_behind};
 
 use crate::link::{Link, MemLink, StreamLink};
 use crate::plan::Plan;
@@ -25,10 +25,10 @@ pub trait Door {
     /// The links that arrive at it.
     type Line: Link + Drop;
 
-    // How many calls have failed, up to the greatest u64.
+    // How many calls have failed, saturating at `u64::MAX`.
     ghost faults: { Self → ℕ };
 
-    // Whether it has answered `Closed`. This stays so.
+    // Whether it has answered `Closed`. Once true, it stays true.
     ghost closed: { Self → Bool };
 
     /// The next link.
@@ -64,7 +64,7 @@ impl Model for MemDoor {
 impl MemDoor {
     /// Gives these links. The plan says which calls fail; its sizes are not used.
     pub fn new(links: Vec<MemLink>, plan: Plan) -> MemDoor
-        ensures { result ≡ record { links = links.items; plan = plan; calls = 0; faults = 0; closed = false } }
+        ensures { result ≡ new_door links.items plan }
     {
         MemDoor {
             links,

@@ -1,7 +1,7 @@
 //! Links: connections that are read and written, such as TCP streams.
-ghost use Rattle.std.specs.Prelude.{◌≡◌, ℕ, ◌<◌, ◌≤◌, List, Option, Some, None, length, take, OnOk, OnErr};
+ghost use Rattle.std.specs.Prelude.{◌≡◌, ℕ, ◌<◌, ◌≤◌, List, Option, Some, None, length, OnOk, OnErr};
 ghost use Rattle.std.specs.Io.KnownBytes.{Appends};
-ghost use Rattle.un_io.specs.Outside.{Rose, Reads, Writes, CountsReads, CountsWrites};
+ghost use Rattle.un_io.specs.Outside.{Rose, Reads, Writes, AppendsPrefix, CountsReads, CountsWrites};
 ghost use Rattle.un_io.specs.Plans.{next_read, read_by, next_write, written_by};
 
 use crate::memory::{MemSink, MemSource};
@@ -14,19 +14,19 @@ use std::marker::Model;
 pub trait Link {
     ghost use Rattle.un_io.specs.Outside.{Reads, Writes, CountsReads, CountsWrites};
 
-    // The bytes that are left to read, where they are known.
+    // The bytes that are left to read, if known.
     ghost left: { Self → Option (List ℕ) };
 
-    // The bytes that it has taken, where they are known.
+    // The bytes that it has taken, if known.
     ghost taken: { Self → Option (List ℕ) };
 
-    // How many reads have failed, up to the greatest u64.
+    // How many reads have failed, saturating at `u64::MAX`.
     ghost read_faults: { Self → ℕ };
 
-    // How many writes have failed, up to the greatest u64.
+    // How many writes have failed, saturating at `u64::MAX`.
     ghost write_faults: { Self → ℕ };
 
-    /// Fills the front of the buffer with the next bytes. The bytes taken and the count of writes stay as they are.
+    /// Reads the next bytes into the start of the buffer. The bytes taken and the count of write faults do not change.
     fn read(&mut self, buf: &mut [u8]) -> Got
         requires { 0 < length buf.old }
         ensures bytes { Reads (left self.old) (left self.new) buf.new result }
@@ -34,7 +34,7 @@ pub trait Link {
         ensures keeps_taken { taken self.new ≡ taken self.old }
         ensures keeps_count { write_faults self.new ≡ write_faults self.old };
 
-    /// Takes the front of the piece. The bytes left and the count of reads stay as they are.
+    /// Takes a prefix of the piece. The bytes left and the count of read faults do not change.
     fn write(&mut self, piece: &[u8]) -> Took
         requires { 0 < length piece.now }
         ensures bytes { Writes (taken self.old) (taken self.new) piece.now result }
@@ -104,7 +104,7 @@ impl Link for MemLink {
     }
 }
 
-/// A link over a stream, such as a socket. Contracts learn nothing of its bytes.
+/// A link over a stream, such as a socket. Contracts say nothing about its bytes.
 #[derive(Drop)]
 pub struct StreamLink<S> {
     stream: S,
@@ -159,10 +159,10 @@ impl<S: Read + Write> Link for StreamLink<S> {
     }
 }
 
-/// Writes all of the bytes to a link, or at a fault a prefix of them. What is left to read stays as it is.
+/// Writes all of the bytes to a link, or, if a write fails, a prefix of them. What is left to read does not change.
 pub fn send<L: Link>(link: &mut L, bytes: &[u8]) -> Result<(), SinkFault>
     ensures ok { OnOk result (Appends (L.taken link.old) (L.taken link.new) bytes.now) }
-    ensures err { OnErr result ((n : ℕ) × (n < length bytes.now) × Appends (L.taken link.old) (L.taken link.new) (take n bytes.now)) }
+    ensures err { OnErr result (AppendsPrefix (L.taken link.old) (L.taken link.new) bytes.now) }
     ensures counted { L.write_faults link.old ≤ L.write_faults link.new }
     ensures unfailing { OnOk result (L.write_faults link.new ≡ L.write_faults link.old) }
     ensures cause { OnErr result (Rose (L.write_faults link.old) (L.write_faults link.new)) }

@@ -19,37 +19,37 @@ or_blame place None = Err place
 or_blame place (Some a) = Ok a
 
 -- the value of a member that must be there
-unfoldable pub needed : {A : Type 0} → Place → (Data → Option A) → Data → Result A Place
-needed place form d = or_blame place (option_and_then form (get (place_text place) d))
+unfoldable pub required_member : {A : Type 0} → Place → (Data → Option A) → Data → Result A Place
+required_member place form d = or_blame place (option_and_then form (get (place_text place) d))
 
 -- the value of a member that may be absent, and has another value then
-unfoldable pub optional : {A : Type 0} → Place → (Data → Option A) → A → Data → Result A Place
-optional place form default d = option_map_or (λ v. or_blame place (form v)) (get (place_text place) d) (Ok default)
+unfoldable pub optional_member : {A : Type 0} → Place → (Data → Option A) → A → Data → Result A Place
+optional_member place form default d = option_map_or (λ v. or_blame place (form v)) (get (place_text place) d) (Ok default)
 
 -- a member of a row: its name, and its value in an object
 pub record Column (A : Type 0) : Type 0 where
   pub places : List Place
   pub value : Data → Result A Place
 
-abbrev pub need : {A : Type 0} → Place → (Data → Option A) → Column A
-need p form = record { places = p ∷ []; value = needed p form }
+abbrev pub required : {A : Type 0} → Place → (Data → Option A) → Column A
+required p form = record { places = p ∷ []; value = required_member p form }
 
-abbrev pub may : {A : Type 0} → Place → (Data → Option A) → A → Column A
-may p form default = record { places = p ∷ []; value = optional p form default }
+abbrev pub optional : {A : Type 0} → Place → (Data → Option A) → A → Column A
+optional p form default = record { places = p ∷ []; value = optional_member p form default }
 
 -- a member that must be there where the row takes it, and has another value where the row does not take it
-unfoldable pub needed_when : {A : Type 0} → Bool → Place → (Data → Option A) → A → Data → Result A Place
-needed_when taken place form other d = if taken then needed place form d else Ok other
+unfoldable pub required_member_when : {A : Type 0} → Bool → Place → (Data → Option A) → A → Data → Result A Place
+required_member_when taken place form other d = if taken then required_member place form d else Ok other
 
 -- the same of a member that may be absent
-unfoldable pub optional_when : {A : Type 0} → Bool → Place → (Data → Option A) → A → Data → Result A Place
-optional_when taken place form default d = if taken then optional place form default d else Ok default
+unfoldable pub optional_member_when : {A : Type 0} → Bool → Place → (Data → Option A) → A → Data → Result A Place
+optional_member_when taken place form default d = if taken then optional_member place form default d else Ok default
 
-abbrev pub need_when : {A : Type 0} → Bool → Place → (Data → Option A) → A → Column A
-need_when taken p form other = record { places = if taken then p ∷ [] else []; value = needed_when taken p form other }
+abbrev pub required_when : {A : Type 0} → Bool → Place → (Data → Option A) → A → Column A
+required_when taken p form other = record { places = if taken then p ∷ [] else []; value = required_member_when taken p form other }
 
-abbrev pub may_when : {A : Type 0} → Bool → Place → (Data → Option A) → A → Column A
-may_when taken p form default = record { places = if taken then p ∷ [] else []; value = optional_when taken p form default }
+abbrev pub optional_when : {A : Type 0} → Bool → Place → (Data → Option A) → A → Column A
+optional_when taken p form default = record { places = if taken then p ∷ [] else []; value = optional_member_when taken p form default }
 
 -- ---- rows
 
@@ -86,8 +86,8 @@ some_other places no_members = false
 some_other places (member k d ms) = is_other places k || some_other places ms
 
 -- no member has another name than these
-unfoldable pub only : List Place → Data → Result (Unit {0}) Place
-only places d = if option_map_or (some_other places) (as_object d) false then Err Extra else Ok tt
+unfoldable pub no_others : List Place → Data → Result (Unit {0}) Place
+no_others places d = if option_map_or (some_other places) (as_object d) false then Err Extra else Ok tt
 
 abbrev pub without_others : {A : Type 0} → Result A Place → Result (Unit {0}) Place → Result A Place
 without_others (Err p) others = Err p
@@ -97,7 +97,7 @@ without_others (Ok a) (Ok u) = Ok a
 -- what a row makes of an object, whose word stands in a member of its own: the first place that is bad, or else `extra` where there are
 -- other members, or else what the members make
 abbrev pub answers : {A : Type 0} → Place → Row A → Data → Result A Place
-answers word r d = without_others (r.value d) (only (word ∷ r.places) d)
+answers word r d = without_others (r.value d) (no_others (word ∷ r.places) d)
 
 -- ---- what goes on behind a value
 

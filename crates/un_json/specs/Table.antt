@@ -1,5 +1,5 @@
--- The members of each request, by its word, in the order in which they are looked at: `need` for a member that must be there, with its
--- name and its form, and `may` for one that may be absent, with the value that it has then.
+-- The members of each request, by its word, in the order in which they are looked at: `required` for a member that must be there, with its
+-- name and its form, and `optional` for one that may be absent, with the value that it has then.
 use Rattle.std.specs.Prelude.{ℕ, Bool, [], ◌∷◌, List, true, false, Option, None, Some, option_map, option_and_then, Result}
 use Rattle.std.specs.Result.{result_ok}
 use Rattle.serde_json.specs.Data.{Data}
@@ -29,30 +29,30 @@ use Rattle.un_json.specs.declared.words.CommandWord.{CommandWord}
 use Rattle.un_json.specs.declared.words.CommandWord.TheVariants as does
 use Rattle.un_json.specs.declared.words.QueryWord.{QueryWord}
 use Rattle.un_json.specs.declared.words.QueryWord.TheVariants as asks
-use Rattle.un_json.specs.Rows.{Row, makes, ◌&◌, need, may, need_when, may_when, needed, answers, mapped, and_then}
+use Rattle.un_json.specs.Rows.{Row, makes, ◌&◌, required, optional, required_when, optional_when, required_member, answers, mapped, and_then}
 use Rattle.un_json.specs.Forms.{kept, id_of, base_of, name_of, points_of, attrs_of, flow_of, ends_of, note_of, port_of, terminal_of, list_of, extent_of, rule_of, starts_of, stops_of, kind_of, some_condition_of, barriers_of, include_of, functions_of, nothing}
 
 -- ---- edits
 
 abbrev pub edit_row : EditWord → Row Edit
 edit_row word.Insert =
-    makes edit.Insert & need place.Kind name_of & need place.Points points_of
-    & may place.Attrs attrs_of [] & may place.Flow flow_of Both & may place.Ends ends_of (0 ∷ 0 ∷ []) & may place.Note note_of []
-edit_row word.Reshape = makes edit.Reshape & need place.Id id_of & need place.Base base_of & need place.Points points_of
-edit_row word.Attrs = makes edit.Attrs & need place.Id id_of & need place.Base base_of & need place.Attrs attrs_of
-edit_row word.Kind = makes edit.Kind & need place.Id id_of & need place.Base base_of & need place.Kind name_of
-edit_row word.Path = makes edit.Path & need place.Id id_of & need place.Base base_of & need place.Path name_of
-edit_row word.Flow = makes edit.Flow & need place.Id id_of & need place.Base base_of & need place.Flow flow_of
-edit_row word.Ends = makes edit.Ends & need place.Id id_of & need place.Base base_of & need place.Ends ends_of
-edit_row word.Note = makes edit.Note & need place.Id id_of & need place.Base base_of & need place.Note note_of
-edit_row word.Delete = makes edit.Delete & need place.Id id_of & need place.Base base_of
-edit_row word.Connect = makes edit.Connect & need place.From port_of & need place.To port_of
-edit_row word.Contain = makes edit.Contain & need place.Container id_of & need place.Content id_of
-edit_row word.Attach = makes edit.Attach & need place.Structure id_of & need place.Content id_of
-edit_row word.Detach = makes edit.Detach & need place.Assoc id_of
+    makes edit.Insert & required place.Kind name_of & required place.Points points_of
+    & optional place.Attrs attrs_of [] & optional place.Flow flow_of Both & optional place.Ends ends_of (0 ∷ 0 ∷ []) & optional place.Note note_of []
+edit_row word.Reshape = makes edit.Reshape & required place.Id id_of & required place.Base base_of & required place.Points points_of
+edit_row word.Attrs = makes edit.Attrs & required place.Id id_of & required place.Base base_of & required place.Attrs attrs_of
+edit_row word.Kind = makes edit.Kind & required place.Id id_of & required place.Base base_of & required place.Kind name_of
+edit_row word.Path = makes edit.Path & required place.Id id_of & required place.Base base_of & required place.Path name_of
+edit_row word.Flow = makes edit.Flow & required place.Id id_of & required place.Base base_of & required place.Flow flow_of
+edit_row word.Ends = makes edit.Ends & required place.Id id_of & required place.Base base_of & required place.Ends ends_of
+edit_row word.Note = makes edit.Note & required place.Id id_of & required place.Base base_of & required place.Note note_of
+edit_row word.Delete = makes edit.Delete & required place.Id id_of & required place.Base base_of
+edit_row word.Connect = makes edit.Connect & required place.From port_of & required place.To port_of
+edit_row word.Contain = makes edit.Contain & required place.Container id_of & required place.Content id_of
+edit_row word.Attach = makes edit.Attach & required place.Structure id_of & required place.Content id_of
+edit_row word.Detach = makes edit.Detach & required place.Assoc id_of
 edit_row word.Controller =
-    makes edit.Controller & need place.Id id_of & need place.Terminal terminal_of & need place.Tier name_of & need place.Subnet name_of
-edit_row word.Uncontroller = makes edit.Uncontroller & need place.Id id_of & need place.Terminal terminal_of
+    makes edit.Controller & required place.Id id_of & required place.Terminal terminal_of & required place.Tier name_of & required place.Subnet name_of
+edit_row word.Uncontroller = makes edit.Uncontroller & required place.Id id_of & required place.Terminal terminal_of
 
 abbrev pub edit_answer : EditWord → Data → Result Edit Place
 edit_answer w d = answers place.Do (edit_row w) d
@@ -71,16 +71,16 @@ edits_of d = kept is_batch (list_of edit_of d)
 -- ---- commands
 
 abbrev pub batch : Row Command
-batch = makes command.Batch & need place.Edits edits_of
+batch = makes command.Batch & required place.Edits edits_of
 
 abbrev pub rule : Row Command
-rule = makes command.Rule & need place.Rule rule_of
+rule = makes command.Rule & required place.Rule rule_of
 
 abbrev pub validate : Row Command
-validate = makes command.Validate & need place.Extent extent_of
+validate = makes command.Validate & required place.Extent extent_of
 
 abbrev pub update : Row Command
-update = makes command.Update & need place.Tier name_of & need place.Subnet name_of
+update = makes command.Update & required place.Tier name_of & required place.Subnet name_of
 
 abbrev pub command_answer : CommandWord → Data → Result Command Place
 command_answer (does.Edit w) d = mapped command.Edit (edit_answer w d)
@@ -96,19 +96,19 @@ abbrev pub query : Asked → ℕ → Query
 query what seen = record { seen = seen; what = what }
 
 abbrev pub version : Row Query
-version = makes (query asked.Version) & may place.Seen base_of 0
+version = makes (query asked.Version) & optional place.Seen base_of 0
 
 abbrev pub feature : Row Query
-feature = makes (λ id. query (asked.Feature id)) & need place.Id id_of & may place.Seen base_of 0
+feature = makes (λ id. query (asked.Feature id)) & required place.Id id_of & optional place.Seen base_of 0
 
 abbrev pub dirty : Row Query
-dirty = makes (λ extent. query (asked.Dirty extent)) & need place.Extent extent_of & may place.Seen base_of 0
+dirty = makes (λ extent. query (asked.Dirty extent)) & required place.Extent extent_of & optional place.Seen base_of 0
 
 abbrev pub errors : Row Query
-errors = makes (λ extent. query (asked.Errors extent)) & need place.Extent extent_of & may place.Seen base_of 0
+errors = makes (λ extent. query (asked.Errors extent)) & required place.Extent extent_of & optional place.Seen base_of 0
 
 abbrev pub subnet : Row Query
-subnet = makes (λ tier name. query (asked.Subnet tier name)) & need place.Tier name_of & need place.Subnet name_of & may place.Seen base_of 0
+subnet = makes (λ tier name. query (asked.Subnet tier name)) & required place.Tier name_of & required place.Subnet name_of & optional place.Seen base_of 0
 
 -- ---- traces
 
@@ -162,17 +162,17 @@ traced kind starts tier subnet isolators barriers stops consistent include funct
 -- the members by the type, which is the first of them
 abbrev pub trace_row : TraceKind → Row Query
 trace_row kind =
-    makes traced & need place.Type kind_of
-    & need_when (takes_starts kind) place.Starts starts_of []
-    & need_when (takes_tier kind) place.Tier some_name_of None
-    & need_when (takes_subnet kind) place.Subnet some_name_of None
-    & need_when (takes_isolators kind) place.Isolators some_condition_of None
-    & may place.Barriers barriers_of None
-    & may place.Stops stops_of []
-    & may_when (takes_consistent kind) place.Consistent as_bool true
-    & may_when (takes_include kind) place.Include include_of nothing
-    & may_when (takes_include kind) place.Functions functions_of []
-    & may place.Seen base_of 0
+    makes traced & required place.Type kind_of
+    & required_when (takes_starts kind) place.Starts starts_of []
+    & required_when (takes_tier kind) place.Tier some_name_of None
+    & required_when (takes_subnet kind) place.Subnet some_name_of None
+    & required_when (takes_isolators kind) place.Isolators some_condition_of None
+    & optional place.Barriers barriers_of None
+    & optional place.Stops stops_of []
+    & optional_when (takes_consistent kind) place.Consistent as_bool true
+    & optional_when (takes_include kind) place.Include include_of nothing
+    & optional_when (takes_include kind) place.Functions functions_of []
+    & optional place.Seen base_of 0
 
 abbrev pub query_answer : QueryWord → Data → Result Query Place
 query_answer asks.Version d = answers place.Ask version d
@@ -180,4 +180,4 @@ query_answer asks.Feature d = answers place.Ask feature d
 query_answer asks.Dirty d = answers place.Ask dirty d
 query_answer asks.Errors d = answers place.Ask errors d
 query_answer asks.Subnet d = answers place.Ask subnet d
-query_answer asks.Trace d = and_then (λ kind. answers place.Ask (trace_row kind) d) (needed place.Type kind_of d)
+query_answer asks.Trace d = and_then (λ kind. answers place.Ask (trace_row kind) d) (required_member place.Type kind_of d)

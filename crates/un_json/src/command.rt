@@ -7,7 +7,7 @@ ghost use Rattle.un_json.specs.declared.words.CommandWord.TheVariants as does;
 
 use crate::edit::read_edit;
 use crate::fault::ReadFault;
-use crate::form::{Form, need, only};
+use crate::form::{Form, no_others, required};
 use crate::list::{Extent, read_list};
 use crate::rule::RuleForm;
 use crate::scalar::Named;
@@ -71,8 +71,8 @@ fn read_batch(alloc: Global, object: &Value) -> Result<Command, ReadFault>
     ensures ok { IfOk result (λ command. command_answer does.Batch (view object.now) ≡ Ok command) }
     ensures err { IfErr result (λ e. Blames e (command_answer does.Batch (view object.now))) }
 {
-    let edits = need::<Batched>(alloc, object, Place::Edits)?;
-    only(object, &[Place::Do, Place::Edits])?;
+    let edits = required::<Batched>(alloc, object, Place::Edits)?;
+    no_others(object, &[Place::Do, Place::Edits])?;
     Ok(Command::Batch(edits))
 }
 
@@ -80,8 +80,8 @@ fn read_validate(alloc: Global, object: &Value) -> Result<Command, ReadFault>
     ensures ok { IfOk result (λ command. command_answer does.Validate (view object.now) ≡ Ok command) }
     ensures err { IfErr result (λ e. Blames e (command_answer does.Validate (view object.now))) }
 {
-    let extent = need::<Extent>(alloc, object, Place::Extent)?;
-    only(object, &[Place::Do, Place::Extent])?;
+    let extent = required::<Extent>(alloc, object, Place::Extent)?;
+    no_others(object, &[Place::Do, Place::Extent])?;
     Ok(Command::Validate { extent })
 }
 
@@ -89,9 +89,9 @@ fn read_update(alloc: Global, object: &Value) -> Result<Command, ReadFault>
     ensures ok { IfOk result (λ command. command_answer does.Update (view object.now) ≡ Ok command) }
     ensures err { IfErr result (λ e. Blames e (command_answer does.Update (view object.now))) }
 {
-    let tier = need::<Named>(alloc, object, Place::Tier)?;
-    let subnet = need::<Named>(alloc, object, Place::Subnet)?;
-    only(object, &[Place::Do, Place::Tier, Place::Subnet])?;
+    let tier = required::<Named>(alloc, object, Place::Tier)?;
+    let subnet = required::<Named>(alloc, object, Place::Subnet)?;
+    no_others(object, &[Place::Do, Place::Tier, Place::Subnet])?;
     Ok(Command::Update { tier, subnet })
 }
 
@@ -99,8 +99,8 @@ fn read_rule_command(alloc: Global, object: &Value) -> Result<Command, ReadFault
     ensures ok { IfOk result (λ command. command_answer does.Rule (view object.now) ≡ Ok command) }
     ensures err { IfErr result (λ e. Blames e (command_answer does.Rule (view object.now))) }
 {
-    let rule = need::<RuleForm>(alloc, object, Place::Rule)?;
-    only(object, &[Place::Do, Place::Rule])?;
+    let rule = required::<RuleForm>(alloc, object, Place::Rule)?;
+    no_others(object, &[Place::Do, Place::Rule])?;
     Ok(Command::Rule { rule })
 }
 

@@ -7,7 +7,7 @@ ghost use Rattle.un_ask.specs.declared.word.EditWord.TheVariants as edits;
 
 use crate::attrs::NamedValues;
 use crate::fault::ReadFault;
-use crate::form::{may, need, only};
+use crate::form::{no_others, optional, required};
 use crate::list::{Ends, PortForm, Vertices};
 use crate::scalar::{Base, Direction, Id, Named, Noted, Terminal};
 use serde_json::Value;
@@ -19,13 +19,13 @@ fn read_insert(alloc: Global, object: &Value) -> Result<Edit, ReadFault>
     ensures ok { IfOk result (λ edit. edit_answer edits.Insert (view object.now) ≡ Ok edit) }
     ensures err { IfErr result (λ e. Blames e (edit_answer edits.Insert (view object.now))) }
 {
-    let kind = need::<Named>(alloc, object, Place::Kind)?;
-    let points = need::<Vertices>(alloc, object, Place::Points)?;
-    let attrs = may::<NamedValues>(alloc, object, Place::Attrs, no_attrs(alloc))?;
-    let flow = may::<Direction>(alloc, object, Place::Flow, Flow::Both)?;
-    let ends = may::<Ends>(alloc, object, Place::Ends, [0, 0])?;
-    let note = may::<Noted>(alloc, object, Place::Note, no_note(alloc))?;
-    only(
+    let kind = required::<Named>(alloc, object, Place::Kind)?;
+    let points = required::<Vertices>(alloc, object, Place::Points)?;
+    let attrs = optional::<NamedValues>(alloc, object, Place::Attrs, no_attrs(alloc))?;
+    let flow = optional::<Direction>(alloc, object, Place::Flow, Flow::Both)?;
+    let ends = optional::<Ends>(alloc, object, Place::Ends, [0, 0])?;
+    let note = optional::<Noted>(alloc, object, Place::Note, no_note(alloc))?;
+    no_others(
         object,
         &[
             Place::Do,
@@ -51,10 +51,10 @@ fn read_reshape(alloc: Global, object: &Value) -> Result<Edit, ReadFault>
     ensures ok { IfOk result (λ edit. edit_answer edits.Reshape (view object.now) ≡ Ok edit) }
     ensures err { IfErr result (λ e. Blames e (edit_answer edits.Reshape (view object.now))) }
 {
-    let id = need::<Id>(alloc, object, Place::Id)?;
-    let base = need::<Base>(alloc, object, Place::Base)?;
-    let points = need::<Vertices>(alloc, object, Place::Points)?;
-    only(object, &[Place::Do, Place::Id, Place::Base, Place::Points])?;
+    let id = required::<Id>(alloc, object, Place::Id)?;
+    let base = required::<Base>(alloc, object, Place::Base)?;
+    let points = required::<Vertices>(alloc, object, Place::Points)?;
+    no_others(object, &[Place::Do, Place::Id, Place::Base, Place::Points])?;
     Ok(Edit::Reshape { id, base, points })
 }
 
@@ -62,10 +62,10 @@ fn read_attrs(alloc: Global, object: &Value) -> Result<Edit, ReadFault>
     ensures ok { IfOk result (λ edit. edit_answer edits.Attrs (view object.now) ≡ Ok edit) }
     ensures err { IfErr result (λ e. Blames e (edit_answer edits.Attrs (view object.now))) }
 {
-    let id = need::<Id>(alloc, object, Place::Id)?;
-    let base = need::<Base>(alloc, object, Place::Base)?;
-    let attrs = need::<NamedValues>(alloc, object, Place::Attrs)?;
-    only(object, &[Place::Do, Place::Id, Place::Base, Place::Attrs])?;
+    let id = required::<Id>(alloc, object, Place::Id)?;
+    let base = required::<Base>(alloc, object, Place::Base)?;
+    let attrs = required::<NamedValues>(alloc, object, Place::Attrs)?;
+    no_others(object, &[Place::Do, Place::Id, Place::Base, Place::Attrs])?;
     Ok(Edit::Attrs { id, base, attrs })
 }
 
@@ -73,10 +73,10 @@ fn read_kind(alloc: Global, object: &Value) -> Result<Edit, ReadFault>
     ensures ok { IfOk result (λ edit. edit_answer edits.Kind (view object.now) ≡ Ok edit) }
     ensures err { IfErr result (λ e. Blames e (edit_answer edits.Kind (view object.now))) }
 {
-    let id = need::<Id>(alloc, object, Place::Id)?;
-    let base = need::<Base>(alloc, object, Place::Base)?;
-    let kind = need::<Named>(alloc, object, Place::Kind)?;
-    only(object, &[Place::Do, Place::Id, Place::Base, Place::Kind])?;
+    let id = required::<Id>(alloc, object, Place::Id)?;
+    let base = required::<Base>(alloc, object, Place::Base)?;
+    let kind = required::<Named>(alloc, object, Place::Kind)?;
+    no_others(object, &[Place::Do, Place::Id, Place::Base, Place::Kind])?;
     Ok(Edit::Kind { id, base, kind })
 }
 
@@ -84,10 +84,10 @@ fn read_path(alloc: Global, object: &Value) -> Result<Edit, ReadFault>
     ensures ok { IfOk result (λ edit. edit_answer edits.Path (view object.now) ≡ Ok edit) }
     ensures err { IfErr result (λ e. Blames e (edit_answer edits.Path (view object.now))) }
 {
-    let id = need::<Id>(alloc, object, Place::Id)?;
-    let base = need::<Base>(alloc, object, Place::Base)?;
-    let path = need::<Named>(alloc, object, Place::Path)?;
-    only(object, &[Place::Do, Place::Id, Place::Base, Place::Path])?;
+    let id = required::<Id>(alloc, object, Place::Id)?;
+    let base = required::<Base>(alloc, object, Place::Base)?;
+    let path = required::<Named>(alloc, object, Place::Path)?;
+    no_others(object, &[Place::Do, Place::Id, Place::Base, Place::Path])?;
     Ok(Edit::Path { id, base, path })
 }
 
@@ -95,10 +95,10 @@ fn read_flow(alloc: Global, object: &Value) -> Result<Edit, ReadFault>
     ensures ok { IfOk result (λ edit. edit_answer edits.Flow (view object.now) ≡ Ok edit) }
     ensures err { IfErr result (λ e. Blames e (edit_answer edits.Flow (view object.now))) }
 {
-    let id = need::<Id>(alloc, object, Place::Id)?;
-    let base = need::<Base>(alloc, object, Place::Base)?;
-    let flow = need::<Direction>(alloc, object, Place::Flow)?;
-    only(object, &[Place::Do, Place::Id, Place::Base, Place::Flow])?;
+    let id = required::<Id>(alloc, object, Place::Id)?;
+    let base = required::<Base>(alloc, object, Place::Base)?;
+    let flow = required::<Direction>(alloc, object, Place::Flow)?;
+    no_others(object, &[Place::Do, Place::Id, Place::Base, Place::Flow])?;
     Ok(Edit::Flow { id, base, flow })
 }
 
@@ -106,10 +106,10 @@ fn read_ends(alloc: Global, object: &Value) -> Result<Edit, ReadFault>
     ensures ok { IfOk result (λ edit. edit_answer edits.Ends (view object.now) ≡ Ok edit) }
     ensures err { IfErr result (λ e. Blames e (edit_answer edits.Ends (view object.now))) }
 {
-    let id = need::<Id>(alloc, object, Place::Id)?;
-    let base = need::<Base>(alloc, object, Place::Base)?;
-    let ends = need::<Ends>(alloc, object, Place::Ends)?;
-    only(object, &[Place::Do, Place::Id, Place::Base, Place::Ends])?;
+    let id = required::<Id>(alloc, object, Place::Id)?;
+    let base = required::<Base>(alloc, object, Place::Base)?;
+    let ends = required::<Ends>(alloc, object, Place::Ends)?;
+    no_others(object, &[Place::Do, Place::Id, Place::Base, Place::Ends])?;
     Ok(Edit::Ends { id, base, ends })
 }
 
@@ -117,10 +117,10 @@ fn read_note(alloc: Global, object: &Value) -> Result<Edit, ReadFault>
     ensures ok { IfOk result (λ edit. edit_answer edits.Note (view object.now) ≡ Ok edit) }
     ensures err { IfErr result (λ e. Blames e (edit_answer edits.Note (view object.now))) }
 {
-    let id = need::<Id>(alloc, object, Place::Id)?;
-    let base = need::<Base>(alloc, object, Place::Base)?;
-    let note = need::<Noted>(alloc, object, Place::Note)?;
-    only(object, &[Place::Do, Place::Id, Place::Base, Place::Note])?;
+    let id = required::<Id>(alloc, object, Place::Id)?;
+    let base = required::<Base>(alloc, object, Place::Base)?;
+    let note = required::<Noted>(alloc, object, Place::Note)?;
+    no_others(object, &[Place::Do, Place::Id, Place::Base, Place::Note])?;
     Ok(Edit::Note { id, base, note })
 }
 
@@ -128,9 +128,9 @@ fn read_delete(alloc: Global, object: &Value) -> Result<Edit, ReadFault>
     ensures ok { IfOk result (λ edit. edit_answer edits.Delete (view object.now) ≡ Ok edit) }
     ensures err { IfErr result (λ e. Blames e (edit_answer edits.Delete (view object.now))) }
 {
-    let id = need::<Id>(alloc, object, Place::Id)?;
-    let base = need::<Base>(alloc, object, Place::Base)?;
-    only(object, &[Place::Do, Place::Id, Place::Base])?;
+    let id = required::<Id>(alloc, object, Place::Id)?;
+    let base = required::<Base>(alloc, object, Place::Base)?;
+    no_others(object, &[Place::Do, Place::Id, Place::Base])?;
     Ok(Edit::Delete { id, base })
 }
 
@@ -138,9 +138,9 @@ fn read_connect(alloc: Global, object: &Value) -> Result<Edit, ReadFault>
     ensures ok { IfOk result (λ edit. edit_answer edits.Connect (view object.now) ≡ Ok edit) }
     ensures err { IfErr result (λ e. Blames e (edit_answer edits.Connect (view object.now))) }
 {
-    let from = need::<PortForm>(alloc, object, Place::From)?;
-    let to = need::<PortForm>(alloc, object, Place::To)?;
-    only(object, &[Place::Do, Place::From, Place::To])?;
+    let from = required::<PortForm>(alloc, object, Place::From)?;
+    let to = required::<PortForm>(alloc, object, Place::To)?;
+    no_others(object, &[Place::Do, Place::From, Place::To])?;
     Ok(Edit::Connect { from, to })
 }
 
@@ -148,9 +148,9 @@ fn read_contain(alloc: Global, object: &Value) -> Result<Edit, ReadFault>
     ensures ok { IfOk result (λ edit. edit_answer edits.Contain (view object.now) ≡ Ok edit) }
     ensures err { IfErr result (λ e. Blames e (edit_answer edits.Contain (view object.now))) }
 {
-    let container = need::<Id>(alloc, object, Place::Container)?;
-    let content = need::<Id>(alloc, object, Place::Content)?;
-    only(object, &[Place::Do, Place::Container, Place::Content])?;
+    let container = required::<Id>(alloc, object, Place::Container)?;
+    let content = required::<Id>(alloc, object, Place::Content)?;
+    no_others(object, &[Place::Do, Place::Container, Place::Content])?;
     Ok(Edit::Contain { container, content })
 }
 
@@ -158,9 +158,9 @@ fn read_attach(alloc: Global, object: &Value) -> Result<Edit, ReadFault>
     ensures ok { IfOk result (λ edit. edit_answer edits.Attach (view object.now) ≡ Ok edit) }
     ensures err { IfErr result (λ e. Blames e (edit_answer edits.Attach (view object.now))) }
 {
-    let structure = need::<Id>(alloc, object, Place::Structure)?;
-    let content = need::<Id>(alloc, object, Place::Content)?;
-    only(object, &[Place::Do, Place::Structure, Place::Content])?;
+    let structure = required::<Id>(alloc, object, Place::Structure)?;
+    let content = required::<Id>(alloc, object, Place::Content)?;
+    no_others(object, &[Place::Do, Place::Structure, Place::Content])?;
     Ok(Edit::Attach { structure, content })
 }
 
@@ -168,8 +168,8 @@ fn read_detach(alloc: Global, object: &Value) -> Result<Edit, ReadFault>
     ensures ok { IfOk result (λ edit. edit_answer edits.Detach (view object.now) ≡ Ok edit) }
     ensures err { IfErr result (λ e. Blames e (edit_answer edits.Detach (view object.now))) }
 {
-    let assoc = need::<Id>(alloc, object, Place::Assoc)?;
-    only(object, &[Place::Do, Place::Assoc])?;
+    let assoc = required::<Id>(alloc, object, Place::Assoc)?;
+    no_others(object, &[Place::Do, Place::Assoc])?;
     Ok(Edit::Detach { assoc })
 }
 
@@ -177,11 +177,11 @@ fn read_controller(alloc: Global, object: &Value) -> Result<Edit, ReadFault>
     ensures ok { IfOk result (λ edit. edit_answer edits.Controller (view object.now) ≡ Ok edit) }
     ensures err { IfErr result (λ e. Blames e (edit_answer edits.Controller (view object.now))) }
 {
-    let id = need::<Id>(alloc, object, Place::Id)?;
-    let terminal = need::<Terminal>(alloc, object, Place::Terminal)?;
-    let tier = need::<Named>(alloc, object, Place::Tier)?;
-    let subnet = need::<Named>(alloc, object, Place::Subnet)?;
-    only(
+    let id = required::<Id>(alloc, object, Place::Id)?;
+    let terminal = required::<Terminal>(alloc, object, Place::Terminal)?;
+    let tier = required::<Named>(alloc, object, Place::Tier)?;
+    let subnet = required::<Named>(alloc, object, Place::Subnet)?;
+    no_others(
         object,
         &[
             Place::Do,
@@ -203,9 +203,9 @@ fn read_uncontroller(alloc: Global, object: &Value) -> Result<Edit, ReadFault>
     ensures ok { IfOk result (λ edit. edit_answer edits.Uncontroller (view object.now) ≡ Ok edit) }
     ensures err { IfErr result (λ e. Blames e (edit_answer edits.Uncontroller (view object.now))) }
 {
-    let id = need::<Id>(alloc, object, Place::Id)?;
-    let terminal = need::<Terminal>(alloc, object, Place::Terminal)?;
-    only(object, &[Place::Do, Place::Id, Place::Terminal])?;
+    let id = required::<Id>(alloc, object, Place::Id)?;
+    let terminal = required::<Terminal>(alloc, object, Place::Terminal)?;
+    no_others(object, &[Place::Do, Place::Id, Place::Terminal])?;
     Ok(Edit::Uncontroller { id, terminal })
 }
 

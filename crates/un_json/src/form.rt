@@ -1,6 +1,6 @@
 ghost use Rattle.std.specs.Prelude.{◌≡◌, Ok, IfOk, IfErr, OnOk, false};
 ghost use Rattle.serde_json.specs.View.{view};
-ghost use Rattle.un_json.specs.Rows.{needed, optional, needed_when, optional_when, only, is_named, is_other, some_other, Blames};
+ghost use Rattle.un_json.specs.Rows.{required_member, optional_member, required_member_when, optional_member_when, no_others, is_named, is_other, some_other, Blames};
 ghost use Rattle.serde_json.specs.View.{members_view};
 
 use crate::fault::ReadFault;
@@ -22,14 +22,14 @@ pub trait Form {
 }
 
 /// The value of a member that must be there.
-#[tactic(auto, unfolding(crate::specs::Rows::needed))]
-pub(crate) fn need<F: Form>(
+#[tactic(auto, unfolding(crate::specs::Rows::required_member))]
+pub(crate) fn required<F: Form>(
     alloc: Global,
     object: &Value,
     place: Place,
 ) -> Result<F::Out, ReadFault>
-    ensures ok { IfOk result (λ out. needed place F.form (view object.now) ≡ Ok out) }
-    ensures err { IfErr result (λ e. Blames e (needed place F.form (view object.now))) }
+    ensures ok { IfOk result (λ out. required_member place F.form (view object.now) ≡ Ok out) }
+    ensures err { IfErr result (λ e. Blames e (required_member place F.form (view object.now))) }
 {
     let Some(value) = object.get(place.text()) else {
         return Err(ReadFault::BadRequest { place });
@@ -41,15 +41,15 @@ pub(crate) fn need<F: Form>(
 }
 
 /// The value of a member that may be absent, and is the default then.
-#[tactic(auto, unfolding(crate::specs::Rows::optional))]
-pub(crate) fn may<F: Form>(
+#[tactic(auto, unfolding(crate::specs::Rows::optional_member))]
+pub(crate) fn optional<F: Form>(
     alloc: Global,
     object: &Value,
     place: Place,
     default: F::Out,
 ) -> Result<F::Out, ReadFault>
-    ensures ok { IfOk result (λ out. optional place F.form default (view object.now) ≡ Ok out) }
-    ensures err { IfErr result (λ e. Blames e (optional place F.form default (view object.now))) }
+    ensures ok { IfOk result (λ out. optional_member place F.form default (view object.now) ≡ Ok out) }
+    ensures err { IfErr result (λ e. Blames e (optional_member place F.form default (view object.now))) }
 {
     let Some(value) = object.get(place.text()) else {
         return Ok(default);
@@ -61,8 +61,8 @@ pub(crate) fn may<F: Form>(
 }
 
 /// The value of a member that must be there where it is taken; where it is not, the other value.
-#[tactic(auto, unfolding(crate::specs::Rows::needed_when))]
-pub(crate) fn need_when<F: Form>(
+#[tactic(auto, unfolding(crate::specs::Rows::required_member_when))]
+pub(crate) fn required_when<F: Form>(
     taken: bool,
     alloc: Global,
     object: &Value,
@@ -70,20 +70,20 @@ pub(crate) fn need_when<F: Form>(
     other: F::Out,
 ) -> Result<F::Out, ReadFault>
     ensures ok { IfOk result
-        (λ out. needed_when taken place F.form other (view object.now) ≡ Ok out) }
+        (λ out. required_member_when taken place F.form other (view object.now) ≡ Ok out) }
     ensures err { IfErr result
-        (λ e. Blames e (needed_when taken place F.form other (view object.now))) }
+        (λ e. Blames e (required_member_when taken place F.form other (view object.now))) }
 {
     if taken {
-        need::<F>(alloc, object, place)
+        required::<F>(alloc, object, place)
     } else {
         Ok(other)
     }
 }
 
 /// The value of a member that may be absent, where it is taken; the default in every other case.
-#[tactic(auto, unfolding(crate::specs::Rows::optional_when))]
-pub(crate) fn may_when<F: Form>(
+#[tactic(auto, unfolding(crate::specs::Rows::optional_member_when))]
+pub(crate) fn optional_when<F: Form>(
     taken: bool,
     alloc: Global,
     object: &Value,
@@ -91,22 +91,22 @@ pub(crate) fn may_when<F: Form>(
     default: F::Out,
 ) -> Result<F::Out, ReadFault>
     ensures ok { IfOk result
-        (λ out. optional_when taken place F.form default (view object.now) ≡ Ok out) }
+        (λ out. optional_member_when taken place F.form default (view object.now) ≡ Ok out) }
     ensures err { IfErr result
-        (λ e. Blames e (optional_when taken place F.form default (view object.now))) }
+        (λ e. Blames e (optional_member_when taken place F.form default (view object.now))) }
 {
     if taken {
-        may::<F>(alloc, object, place, default)
+        optional::<F>(alloc, object, place, default)
     } else {
         Ok(default)
     }
 }
 
 /// Refuses an object that has a member with another name than these.
-#[tactic(auto, unfolding(crate::specs::Rows::only))]
-pub(crate) fn only(object: &Value, places: &[Place]) -> Result<(), ReadFault>
-    ensures ok { OnOk result (only places.now (view object.now) ≡ Ok tt) }
-    ensures err { IfErr result (λ e. Blames e (only places.now (view object.now))) }
+#[tactic(auto, unfolding(crate::specs::Rows::no_others))]
+pub(crate) fn no_others(object: &Value, places: &[Place]) -> Result<(), ReadFault>
+    ensures ok { OnOk result (no_others places.now (view object.now) ≡ Ok tt) }
+    ensures err { IfErr result (λ e. Blames e (no_others places.now (view object.now))) }
 {
     match object.as_object() {
         Some(members) if some_other(members, places) => {

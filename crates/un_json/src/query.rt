@@ -3,14 +3,14 @@ ghost use Rattle.std.specs.Prelude.{◌≡◌, [], ◌∷◌, Ok, None, true, If
 ghost use Rattle.serde_json.specs.View.{view};
 ghost use Rattle.un_schema.specs.declared.place.Place.TheVariants as place;
 ghost use Rattle.serde_json.specs.Find.{as_bool};
-ghost use Rattle.un_json.specs.Rows.{Blames, needed, needed_when, optional_when, answers};
+ghost use Rattle.un_json.specs.Rows.{Blames, required_member, required_member_when, optional_member_when, answers};
 ghost use Rattle.un_json.specs.Table.{query_answer, trace_row, takes_starts, takes_tier, takes_subnet, takes_isolators, takes_consistent, takes_include, some_name_of};
 ghost use Rattle.un_json.specs.Forms.{kind_of, starts_of, some_condition_of, include_of, functions_of, nothing};
 ghost use Rattle.un_json.specs.declared.words.QueryWord.TheVariants as asks;
 
 use crate::condition::{Barrier, Condition};
 use crate::fault::ReadFault;
-use crate::form::{may, may_when, need, need_when, only};
+use crate::form::{no_others, optional, optional_when, required, required_when};
 use crate::include::{Functions, Inclusions, nothing};
 use crate::list::{Extent, Starts, Stops};
 use crate::scalar::{Base, Id, Kinds, Named, SomeName, Truth};
@@ -24,8 +24,8 @@ fn read_version(alloc: Global, object: &Value) -> Result<Query, ReadFault>
     ensures ok { IfOk result (λ query. query_answer asks.Version (view object.now) ≡ Ok query) }
     ensures err { IfErr result (λ e. Blames e (query_answer asks.Version (view object.now))) }
 {
-    let seen = may::<Base>(alloc, object, Place::Seen, 0)?;
-    only(object, &[Place::Ask, Place::Seen])?;
+    let seen = optional::<Base>(alloc, object, Place::Seen, 0)?;
+    no_others(object, &[Place::Ask, Place::Seen])?;
     Ok(Query {
         seen,
         what: Asked::Version,
@@ -36,9 +36,9 @@ fn read_feature(alloc: Global, object: &Value) -> Result<Query, ReadFault>
     ensures ok { IfOk result (λ query. query_answer asks.Feature (view object.now) ≡ Ok query) }
     ensures err { IfErr result (λ e. Blames e (query_answer asks.Feature (view object.now))) }
 {
-    let id = need::<Id>(alloc, object, Place::Id)?;
-    let seen = may::<Base>(alloc, object, Place::Seen, 0)?;
-    only(object, &[Place::Ask, Place::Id, Place::Seen])?;
+    let id = required::<Id>(alloc, object, Place::Id)?;
+    let seen = optional::<Base>(alloc, object, Place::Seen, 0)?;
+    no_others(object, &[Place::Ask, Place::Id, Place::Seen])?;
     Ok(Query {
         seen,
         what: Asked::Feature { id },
@@ -49,9 +49,9 @@ fn read_dirty(alloc: Global, object: &Value) -> Result<Query, ReadFault>
     ensures ok { IfOk result (λ query. query_answer asks.Dirty (view object.now) ≡ Ok query) }
     ensures err { IfErr result (λ e. Blames e (query_answer asks.Dirty (view object.now))) }
 {
-    let extent = need::<Extent>(alloc, object, Place::Extent)?;
-    let seen = may::<Base>(alloc, object, Place::Seen, 0)?;
-    only(object, &[Place::Ask, Place::Extent, Place::Seen])?;
+    let extent = required::<Extent>(alloc, object, Place::Extent)?;
+    let seen = optional::<Base>(alloc, object, Place::Seen, 0)?;
+    no_others(object, &[Place::Ask, Place::Extent, Place::Seen])?;
     Ok(Query {
         seen,
         what: Asked::Dirty { extent },
@@ -62,9 +62,9 @@ fn read_errors(alloc: Global, object: &Value) -> Result<Query, ReadFault>
     ensures ok { IfOk result (λ query. query_answer asks.Errors (view object.now) ≡ Ok query) }
     ensures err { IfErr result (λ e. Blames e (query_answer asks.Errors (view object.now))) }
 {
-    let extent = need::<Extent>(alloc, object, Place::Extent)?;
-    let seen = may::<Base>(alloc, object, Place::Seen, 0)?;
-    only(object, &[Place::Ask, Place::Extent, Place::Seen])?;
+    let extent = required::<Extent>(alloc, object, Place::Extent)?;
+    let seen = optional::<Base>(alloc, object, Place::Seen, 0)?;
+    no_others(object, &[Place::Ask, Place::Extent, Place::Seen])?;
     Ok(Query {
         seen,
         what: Asked::Errors { extent },
@@ -75,10 +75,10 @@ fn read_subnet(alloc: Global, object: &Value) -> Result<Query, ReadFault>
     ensures ok { IfOk result (λ query. query_answer asks.Subnet (view object.now) ≡ Ok query) }
     ensures err { IfErr result (λ e. Blames e (query_answer asks.Subnet (view object.now))) }
 {
-    let tier = need::<Named>(alloc, object, Place::Tier)?;
-    let subnet = need::<Named>(alloc, object, Place::Subnet)?;
-    let seen = may::<Base>(alloc, object, Place::Seen, 0)?;
-    only(
+    let tier = required::<Named>(alloc, object, Place::Tier)?;
+    let subnet = required::<Named>(alloc, object, Place::Subnet)?;
+    let seen = optional::<Base>(alloc, object, Place::Seen, 0)?;
+    no_others(
         object,
         &[Place::Ask, Place::Tier, Place::Subnet, Place::Seen],
     )?;
@@ -92,13 +92,13 @@ fn read_trace(alloc: Global, object: &Value) -> Result<Query, ReadFault>
     ensures ok { IfOk result (λ query. query_answer asks.Trace (view object.now) ≡ Ok query) }
     ensures err { IfErr result (λ e. Blames e (query_answer asks.Trace (view object.now))) }
 {
-    let kind = need::<Kinds>(alloc, object, Place::Type)?;
+    let kind = required::<Kinds>(alloc, object, Place::Type)?;
     read_trace_of(alloc, kind, object)
 }
 
 /// The members of a trace of a kind, which its member `type` gives.
 fn read_trace_of(alloc: Global, kind: TraceKind, object: &Value) -> Result<Query, ReadFault>
-    requires { needed place.Type kind_of (view object.now) ≡ Ok kind }
+    requires { required_member place.Type kind_of (view object.now) ≡ Ok kind }
     ensures ok { IfOk result (λ query. answers place.Ask (trace_row kind) (view object.now) ≡ Ok query) }
     ensures err { IfErr result (λ e. Blames e (answers place.Ask (trace_row kind) (view object.now))) }
 {
@@ -106,13 +106,13 @@ fn read_trace_of(alloc: Global, kind: TraceKind, object: &Value) -> Result<Query
     let tier = read_tier(alloc, kind, object)?;
     let subnet = read_subnet_of(alloc, kind, object)?;
     let isolators = read_isolators(alloc, kind, object)?;
-    let barriers = may::<Barrier>(alloc, object, Place::Barriers, None)?;
-    let stops = may::<Stops>(alloc, object, Place::Stops, no_ports(alloc))?;
+    let barriers = optional::<Barrier>(alloc, object, Place::Barriers, None)?;
+    let stops = optional::<Stops>(alloc, object, Place::Stops, no_ports(alloc))?;
     let consistent = read_consistent(alloc, kind, object)?;
     let include = read_include(alloc, kind, object)?;
     let functions = read_functions(alloc, kind, object)?;
-    let seen = may::<Base>(alloc, object, Place::Seen, 0)?;
-    only(object, members_of(kind))?;
+    let seen = optional::<Base>(alloc, object, Place::Seen, 0)?;
+    no_others(object, members_of(kind))?;
     let trace = TraceAsk {
         kind,
         starts,
@@ -134,34 +134,34 @@ fn read_trace_of(alloc: Global, kind: TraceKind, object: &Value) -> Result<Query
 /// The ports from which the trace starts.
 fn read_starts(alloc: Global, kind: TraceKind, object: &Value) -> Result<Ports, ReadFault>
     ensures ok { IfOk result
-        (λ ports. needed_when (takes_starts kind) place.Starts starts_of [] (view object.now) ≡ Ok ports) }
+        (λ ports. required_member_when (takes_starts kind) place.Starts starts_of [] (view object.now) ≡ Ok ports) }
     ensures err { IfErr result
-        (λ e. Blames e (needed_when (takes_starts kind) place.Starts starts_of [] (view object.now))) }
+        (λ e. Blames e (required_member_when (takes_starts kind) place.Starts starts_of [] (view object.now))) }
 {
     let taken = !matches!(kind, TraceKind::Subnetwork);
-    need_when::<Starts>(taken, alloc, object, Place::Starts, no_ports(alloc))
+    required_when::<Starts>(taken, alloc, object, Place::Starts, no_ports(alloc))
 }
 
 /// The tier whose barriers hold.
 fn read_tier(alloc: Global, kind: TraceKind, object: &Value) -> Result<Option<Name>, ReadFault>
     ensures ok { IfOk result
-        (λ tier. needed_when (takes_tier kind) place.Tier some_name_of None (view object.now) ≡ Ok tier) }
+        (λ tier. required_member_when (takes_tier kind) place.Tier some_name_of None (view object.now) ≡ Ok tier) }
     ensures err { IfErr result
-        (λ e. Blames e (needed_when (takes_tier kind) place.Tier some_name_of None (view object.now))) }
+        (λ e. Blames e (required_member_when (takes_tier kind) place.Tier some_name_of None (view object.now))) }
 {
     let taken = !matches!(kind, TraceKind::Connected | TraceKind::Loops);
-    need_when::<SomeName>(taken, alloc, object, Place::Tier, None)
+    required_when::<SomeName>(taken, alloc, object, Place::Tier, None)
 }
 
 /// The subnetwork from whose controllers the trace starts.
 fn read_subnet_of(alloc: Global, kind: TraceKind, object: &Value) -> Result<Option<Name>, ReadFault>
     ensures ok { IfOk result
-        (λ subnet. needed_when (takes_subnet kind) place.Subnet some_name_of None (view object.now) ≡ Ok subnet) }
+        (λ subnet. required_member_when (takes_subnet kind) place.Subnet some_name_of None (view object.now) ≡ Ok subnet) }
     ensures err { IfErr result
-        (λ e. Blames e (needed_when (takes_subnet kind) place.Subnet some_name_of None (view object.now))) }
+        (λ e. Blames e (required_member_when (takes_subnet kind) place.Subnet some_name_of None (view object.now))) }
 {
     let taken = matches!(kind, TraceKind::Subnetwork);
-    need_when::<SomeName>(taken, alloc, object, Place::Subnet, None)
+    required_when::<SomeName>(taken, alloc, object, Place::Subnet, None)
 }
 
 /// What isolates.
@@ -171,43 +171,43 @@ fn read_isolators(
     object: &Value,
 ) -> Result<Option<RawCondition>, ReadFault>
     ensures ok { IfOk result
-        (λ isolators. needed_when (takes_isolators kind) place.Isolators some_condition_of None (view object.now) ≡ Ok isolators) }
+        (λ isolators. required_member_when (takes_isolators kind) place.Isolators some_condition_of None (view object.now) ≡ Ok isolators) }
     ensures err { IfErr result
-        (λ e. Blames e (needed_when (takes_isolators kind) place.Isolators some_condition_of None (view object.now))) }
+        (λ e. Blames e (required_member_when (takes_isolators kind) place.Isolators some_condition_of None (view object.now))) }
 {
     let taken = matches!(kind, TraceKind::Isolation);
-    need_when::<Condition>(taken, alloc, object, Place::Isolators, None)
+    required_when::<Condition>(taken, alloc, object, Place::Isolators, None)
 }
 
 /// Whether the trace is consistent.
 fn read_consistent(alloc: Global, kind: TraceKind, object: &Value) -> Result<bool, ReadFault>
     ensures ok { IfOk result
-        (λ consistent. optional_when (takes_consistent kind) place.Consistent as_bool true (view object.now) ≡ Ok consistent) }
+        (λ consistent. optional_member_when (takes_consistent kind) place.Consistent as_bool true (view object.now) ≡ Ok consistent) }
     ensures err { IfErr result
-        (λ e. Blames e (optional_when (takes_consistent kind) place.Consistent as_bool true (view object.now))) }
+        (λ e. Blames e (optional_member_when (takes_consistent kind) place.Consistent as_bool true (view object.now))) }
 {
     let taken = !matches!(kind, TraceKind::Loops | TraceKind::Isolation);
-    may_when::<Truth>(taken, alloc, object, Place::Consistent, true)
+    optional_when::<Truth>(taken, alloc, object, Place::Consistent, true)
 }
 
 /// What the trace tells besides its features.
 fn read_include(alloc: Global, kind: TraceKind, object: &Value) -> Result<Include, ReadFault>
     ensures ok { IfOk result
-        (λ include. optional_when (takes_include kind) place.Include include_of nothing (view object.now) ≡ Ok include) }
+        (λ include. optional_member_when (takes_include kind) place.Include include_of nothing (view object.now) ≡ Ok include) }
     ensures err { IfErr result
-        (λ e. Blames e (optional_when (takes_include kind) place.Include include_of nothing (view object.now))) }
+        (λ e. Blames e (optional_member_when (takes_include kind) place.Include include_of nothing (view object.now))) }
 {
-    may_when::<Inclusions>(has_result(kind), alloc, object, Place::Include, nothing())
+    optional_when::<Inclusions>(has_result(kind), alloc, object, Place::Include, nothing())
 }
 
 /// The functions over the features of the trace.
 fn read_functions(alloc: Global, kind: TraceKind, object: &Value) -> Result<NamedFuncs, ReadFault>
     ensures ok { IfOk result
-        (λ functions. optional_when (takes_include kind) place.Functions functions_of [] (view object.now) ≡ Ok functions) }
+        (λ functions. optional_member_when (takes_include kind) place.Functions functions_of [] (view object.now) ≡ Ok functions) }
     ensures err { IfErr result
-        (λ e. Blames e (optional_when (takes_include kind) place.Functions functions_of [] (view object.now))) }
+        (λ e. Blames e (optional_member_when (takes_include kind) place.Functions functions_of [] (view object.now))) }
 {
-    may_when::<Functions>(
+    optional_when::<Functions>(
         has_result(kind),
         alloc,
         object,

@@ -1,20 +1,19 @@
-//! The board: the one writer beside many sessions.
+//! The board: one writer beside many sessions.
 //!
 //! A board keeps the log as it stands, the published value, whose state is the last one of the log, and a state that
 //! is staged. Publishing adds an entry to the log by one exchange, and then shows the staged state to readers by
-//! another: from then on each reader that enters finds the longer log. All that takes memory is done before the first
-//! of these. The second one waits until nobody reads the copy that it replaces.
+//! another: from then on each reader that enters finds the longer log. All memory is allocated before the first
+//! exchange. The second one waits until nobody reads the copy that it replaces.
 //!
-//! A session that has to see the whole log is taught: it gets a new reader that was told the log, and enters by it.
-//! The board makes one place more than it has sessions, so there is always one to give; the old one comes back.
-ghost use Rattle.std.specs.Prelude.{◌≡◌, ◌≢◌, ◌+◌, ◌⊎◌, ◌≤◌, ◌<◌, ◌^◌, ◌++◌, ◌∷◌, [], length, Some, None, IfOk, IfErr, OnErr, OnOk, MatchResult};
-ghost use Rattle.std.proofs.Common.{inl};
+//! A session that has to see the whole log is taught: it gets a new reader that was told the log, and enters with it.
+//! The board has one more place than sessions, so one is always free to give; the session's old one is then free.
+ghost use Rattle.std.specs.Prelude.{◌≡◌, ◌+◌, ◌≤◌, ◌<◌, ◌^◌, ◌++◌, ◌∷◌, [], length, Some, None, IfOk, IfErr, OnErr, OnOk};
 ghost use mathlib.Core.List.{IsPrefix};
 ghost use Rattle.std.specs.Arc.{arc_value};
 ghost use Rattle.left_right.specs.Sides.{view};
 ghost use Rattle.un_machine.specs.Logs.{Reaches, entries_of};
 ghost use Rattle.un_publish.specs.Faults.{IsBookFault, IsTeachFault};
-ghost use Rattle.un_publish.specs.Models.{AreFresh, BoardModel, risen};
+ghost use Rattle.un_publish.specs.Models.{AreFresh, BoardModel, LeadsToStaged, risen, with_own_entry};
 
 use crate::prefix::{LogLength, NewLog, Prefix};
 use crate::published::{BoardName, BoardRule, Known, Looks, Notes, Published, Snapshot};
@@ -29,8 +28,8 @@ use un_machine::{Entry, Machine};
 
 type BoardPublisher<M, J> = Publisher<Published<M, J>, Known<M>, BoardRule>;
 
-/// One log with its last state, which sessions read while it is edited. Contracts see the log, the state to which it
-/// leads, and the state that is staged. It is not `Drop`: end it by `close`.
+/// A log with its last state, which sessions read while the log grows. Contracts see the log, the state that it leads
+/// to, and the staged state. It is not `Drop`: end it by `close`.
 pub struct Board<M: Machine, J: BoardName<M>>
 where
     Published<M, J>: Snapshot<State = Published<M, J>>,
@@ -58,7 +57,7 @@ where
     ghost invariant = { λ b. (b.writer.desk.shown.value.1 ≡ b.prefix) × ((known_by b.writer.desk.place).seen ≡ b.prefix) × Reaches M.step J.opening b.prefix b.writer.desk.shown.value.0 };
 }
 
-// A writer that shows this value, and its room for so many readers. It waits for readers.
+// A writer that shows this value, with room for `readers` readers. It waits for readers.
 fn writer_of<M: Machine, J: BoardName<M>, R: Wait>(
     rt: &R,
     alloc: Global,
@@ -77,7 +76,7 @@ where
     let Ok(writer) = BoardPublisher::<M, J>::new(alloc, first, second, readers) else {
         return Err(AllocError);
     };
-    // The writer's list grows here once for all, so that no later publishing has to grow it after the log has grown.
+    // The writer's list gets its final size here, so that no later publishing has to grow it after the log has grown.
     let (writer, grown) = publish_whole::<Published<M, J>, Known<M>, BoardRule, Looks, R>(
         writer, rt, third,
     );
@@ -92,8 +91,8 @@ impl<M: Machine, J: BoardName<M>> Board<M, J>
 where
     Published<M, J>: Snapshot<State = Published<M, J>>,
 {
-    /// A board whose log is empty, and so many sessions at it, which are numbered from 0 on. It waits for readers.
-    /// An error also comes where there is no room for the readers' places, since nothing tells the two apart.
+    /// A board with an empty log, and this many sessions at it, numbered from 0. It waits for readers. The error also
+    /// means that there is no room for the readers' places, since the two cannot be told apart.
     pub fn open<R: Wait>(
         rt: &R,
         alloc: Global,
@@ -135,7 +134,7 @@ where
         self.prefix.len()
     }
 
-    /// Makes ready the state that is to be published next. One that was staged before is replaced.
+    /// Stages the state that is to be published next. It replaces one that was staged before.
     pub fn stage(&mut self, _alloc: Global, next: Arc<M>) -> Result<(), AllocError>
         ensures ok { OnOk result (self.new ≡ record self.old { staged = Some (arc_value next) }) }
         ensures memory { OnErr result (self.new ≡ self.old) }
@@ -154,10 +153,10 @@ where
         Arc::try_clone(state).map_err(|_| AllocError)
     }
 
-    /// Adds the entry to the log and shows the staged state, to which it leads. It waits for readers.
+    /// Adds the entry to the log and publishes the staged state, to which the entry leads. It waits for readers.
     pub fn publish<R: Wait>(&mut self, rt: &R, entry: &Entry<M>) -> Result<(), AllocError>
         requires number { entry.now.n ≡ length (entries_of entry.now.session self.old.log) + 1 }
-        requires steps { (s : M) × (self.old.staged ≡ Some s) × (M.step self.old.state entry.now.cmd ≡ inl (s, (entry.now.reply, entry.now.mark))) }
+        requires steps { LeadsToStaged M.step self.old entry.now }
         ensures log { OnOk result (self.new.log ≡ self.old.log ++ entry.now ∷ []) }
         ensures state { OnOk result (Some self.new.state ≡ self.old.staged) }
         ensures staged { OnOk result (self.new.staged ≡ None) }
@@ -182,8 +181,8 @@ where
     }
 
     /// The session learns the whole log and enters the published copy, so that what it has then seen begins with the
-    /// log and with all that it had seen. It waits for nobody and takes no memory. `NoCopy` comes where there was no
-    /// copy to enter, and `Long` where the session has then seen more than the log has.
+    /// log and with all that it had seen. It never waits and allocates nothing. It returns `NoCopy` if there was no copy
+    /// to enter, and `Long` if the session has then seen more entries than the log has.
     pub fn teach(&mut self, session: &mut Session<M, J>) -> Result<(), Denied>
         ensures board { self.new ≡ self.old }
         ensures seen { IsPrefix session.old.seen session.new.seen }
@@ -199,12 +198,12 @@ where
         session.learn_log(reader, &self.prefix)
     }
 
-    /// The session learns the whole log, to which its own entry was just added. For a journal, which calls it once for
-    /// each entry that it publishes, and for nobody else. It waits where no place for a reader is free.
+    /// The session learns the whole log, to which its own entry was just added. Only a journal should call it, once for
+    /// each entry that it publishes. It waits while no reader's place is free.
     pub fn teach_committed<R: Wait>(&mut self, rt: &R, session: &mut Session<M, J>)
         requires { session.old.own < length (entries_of session.old.number self.old.log) }
         ensures board { self.new ≡ self.old }
-        ensures session { session.new ≡ record session.old { seen = self.old.log; own = session.old.own + 1 } }
+        ensures session { session.new ≡ with_own_entry self.old.log session.old }
     {
         let reader = informed_reader_at_last::<Published<M, J>, Known<M>, BoardRule, Notes, R>(
             &mut self.writer,
@@ -214,8 +213,8 @@ where
     }
 
     /// Compares the number of the log's entries with the session's number, the book, with the number of entries that the
-    /// session counts as its own. `Denied` is `Book`, with both numbers, exactly where they differ. It waits for nobody
-    /// and takes no memory.
+    /// session counts as its own. It returns `Book`, with both numbers, exactly if they differ. It never waits and
+    /// allocates nothing.
     pub fn check_book(&self, session: &mut Session<M, J>, book: u64) -> Result<(), Denied>
         requires { book ≡ length (entries_of session.old.number self.now.log) }
         ensures ok { OnOk result ((book ≡ session.old.own) × (session.new ≡ session.old)) }

@@ -1,12 +1,12 @@
-//! The log of a board as threads share it: beginnings that each of them has seen.
+//! The log of a board as threads share it: each of them has seen a prefix of it.
 //!
 //! Sessions and the board have to agree on one log without a lock between them. When the program runs, the log that
-//! they share is one word, its length; its entries are in the proofs alone. A `Prefix` is a token without bytes that
-//! the log has begun with these entries, beside their count. Two prefixes of one log are beginnings of one list, so
-//! their counts say which of the two begins the other. An entry is added by one exchange of the word, from the count
-//! that was seen to one more: where it succeeds, nobody else has added one since.
+//! they share is one word, its length; its entries exist in the proofs alone. A `Prefix` is a count of entries, with a
+//! zero-sized token that the log begins with these entries. Two prefixes of one log are prefixes of one list, so their
+//! counts say which of them is a prefix of the other. An entry is added by one exchange of the word, from the count that
+//! was seen to one more: if it succeeds, nobody else has added an entry since.
 //!
-//! Copying, comparing and adding take a few instructions and no memory, and wait for nobody.
+//! Copying, comparing and adding take a few instructions, allocate nothing and never wait.
 ghost use Rattle.std.specs.Prelude.{◌≡◌, ◌+◌, ◌==◌, ◌<◌, ◌≤◌, ◌^◌, ◌++◌, ◌∷◌, ◌⊎◌, [], length, MatchBool};
 ghost use mathlib.Core.List.{IsPrefix};
 ghost use Rattle.un_publish.specs.LogWord.{head_of, IsFull, IsLonger};
@@ -14,7 +14,7 @@ ghost use Rattle.un_publish.specs.LogWord.{head_of, IsFull, IsLonger};
 use logbook::{Gain, Offer, Plain, Play, Rule, Seen, Start, Word};
 use std::marker::{Brand, Model, PhantomData};
 
-/// The greatest number of entries of a log.
+/// The most entries that a log may have.
 const MOST: u64 = 1 << 62;
 
 /// The rule between the word and the log: the word is the log's length.
@@ -38,7 +38,7 @@ impl<E> Rule<E, u64> for LogRule {
     ghost moves = { λ ask before after answer. Unit {0} };
 }
 
-/// What a caller of a step has from it beside what was seen: nothing.
+/// What the caller of a step gains from it besides what was seen: nothing.
 pub struct NoGain;
 
 impl<E> Gain<E, u64> for NoGain {
@@ -79,7 +79,7 @@ impl LogName for Brand {
     ghost book = { no_book };
 }
 
-/// A beginning of the log that was seen. Contracts see its entries.
+/// A prefix of the log that was seen. Contracts see its entries.
 #[derive(Drop)]
 pub struct Prefix<E, J: LogName> {
     count: u64,
@@ -105,7 +105,7 @@ impl<E, J: LogName> Prefix<E, J> {
         self.count
     }
 
-    /// The same beginning once more.
+    /// A copy of the prefix.
     pub fn copy(&self) -> Prefix<E, J>
         ensures { result ≡ self.now }
     {
@@ -144,7 +144,7 @@ impl<E> NewLog<E> {
         }
     }
 
-    /// The log under its name: the word that stands for it, and the beginning without entries.
+    /// The log under its name: the word that stands for it, and the empty prefix.
     pub fn named<J: LogName>(self) -> (LogLength<E, J>, Prefix<E, J>)
         requires { self.seen.book ≡ J.book }
         ensures { result.1 ≡ [] }
@@ -165,7 +165,7 @@ impl<E> NewLog<E> {
 }
 
 impl<E, J: LogName> Prefix<E, J> {
-    /// Whether the other one begins with this one. If not, this one begins with the other and is longer.
+    /// Whether this is a prefix of the other one. If not, the other one is a shorter prefix of this.
     pub fn begins(&self, other: &Prefix<E, J>) -> bool
         ensures { MatchBool result (IsPrefix self.now other.now) (IsLonger other.now self.now) }
     {
@@ -174,10 +174,11 @@ impl<E, J: LogName> Prefix<E, J> {
         self.count <= other.count
     }
 
-    /// Adds an entry to the log, where this is all of it and there is room for one more, and says whether it did. If
-    /// not, the log was longer, and this is then a longer beginning of it; or this has as many entries as a log may have.
+    /// Adds an entry to the log if this is the whole log and there is room for one more, and says whether it did. If
+    /// not, then either the log was longer, and this becomes a longer prefix of it, or the log is full.
     pub fn add(&mut self, word: &LogLength<E, J>, entry: &E) -> bool
-        ensures { MatchBool result (self.new ≡ self.old ++ entry.now ∷ []) (IsLonger self.old self.new ⊎ IsFull self.old self.new) }
+        ensures { MatchBool result (self.new ≡ self.old ++ entry.now ∷ [])
+            (IsLonger self.old self.new ⊎ IsFull self.old self.new) }
     {
         if self.count >= MOST {
             return false;

@@ -1,9 +1,9 @@
 //! What readers find at a board, and the rule that every step at the board keeps.
 //!
-//! A board has one published value: a state, with the beginning of the log that leads to it. Each place at the board,
-//! of the writer or of a reader, knows two beginnings of the log: what it has seen, and what it was told. The rule
-//! says that the published log begins with both, for every place at once. There are five kinds of step, and each of
-//! them keeps the rule:
+//! A board has one published value: a state, with the prefix of the log that leads to it. Each place at the board, the
+//! writer's or a reader's, knows two prefixes of the log: what it has seen, and what it was told. The rule says that
+//! the published log begins with both, for every place at once. There are five kinds of step, and each of them keeps
+//! the rule:
 //!
 //! | Step | What changes |
 //! |---|---|
@@ -11,7 +11,7 @@
 //! | the writer publishes | the published log grows, and the writer has seen it |
 //! | a reader enters | the reader has seen the published log, which begins with all that it knew |
 //! | the writer tells | nothing: it hands over what it has seen |
-//! | a reader learns | it was told what is handed over, so its next entering finds no less |
+//! | a reader learns | it was told what is handed over, so the next time it enters it finds no less |
 //!
 //! So whatever threads do between two steps of a session, what it sees never goes back, and never falls behind what it
 //! was told. The rule speaks of states and entries as contracts see them, so it is proved once for every machine.
@@ -43,7 +43,7 @@ impl<M> BoardName<M> for Brand {
     ghost opening = { [] };
 }
 
-/// A state, and the beginning of the log that leads to it. Contracts see the two.
+/// A state, and the prefix of the log that leads to it. Contracts see the two.
 #[derive(Drop)]
 pub struct Published<M: Machine, J: BoardName<M>> {
     state: Arc<M>,
@@ -102,7 +102,7 @@ impl<M: Machine, J: BoardName<M>> Absorb<Published<M, J>> for Published<M, J> {
 
     ghost state = { λ s. s };
 
-    // what is handed over last counts, so an operation that was left over does no harm
+    // the last value handed over counts, so one that was left over does no harm
     ghost applied = { λ s o. o };
 
     fn absorb_first(
@@ -135,7 +135,7 @@ impl<M: Machine, J: BoardName<M>> Protocol<Published<M, J>, Known<M>> for BoardR
     ghost first = { newcomer };
 }
 
-/// What entering and publishing tell: the log that is then published was seen, and begins with all that was known.
+/// The outcome of entering and of publishing: the log that is then published was seen, and begins with all that was known.
 pub struct Looks;
 
 impl<M: Machine, J: BoardName<M>> Outcome<Published<M, J>, Known<M>> for Looks {
@@ -161,8 +161,8 @@ impl<M: Machine> Join<Known<M>> for Notes {
     ghost spent = { newcomer };
 }
 
-/// A value that is published whole: of several that were handed over the last one counts, and what the two copies have
-/// in common tells values apart.
+/// A value that is published whole: of several that were handed over only the last one counts, and values that differ
+/// have different states.
 pub trait Snapshot: Absorb<Self> + Sized + Drop {
     ghost use Rattle.std.specs.Prelude.{◌≡◌};
 

@@ -1,12 +1,13 @@
 //! A writer to which each new value is handed over whole.
 //!
 //! `left_right` keeps two copies of a value and a list of operations that the spare copy lacks. Here an operation is a
-//! whole new value, so the last one counts, and what readers find after a publishing is exactly the value handed over.
-//! Readers are told what the writer has seen by a place of their own that is made for it: a place that is just made is
-//! known to be one of this writer's, and one that has been used is not.
-ghost use Rattle.std.specs.Prelude.{◌≡◌, ℕ, IfSome, IfNone, MatchResult};
+//! whole new value, so the last one counts, and once it is published readers find exactly the value handed over.
+//! To tell a reader what the writer has seen, a new place is made for that reader: a place that was just made is known
+//! to belong to this writer, while one that has been used is not.
+ghost use Rattle.std.specs.Prelude.{◌≡◌, IfSome, IfNone, MatchResult};
 ghost use Rattle.left_right.specs.Sides.{view};
-ghost use Rattle.left_right.specs.Register.{Admits, TurnsAt, Forks, Merges};
+ghost use Rattle.left_right.specs.Register.{Admits};
+ghost use Rattle.un_publish.specs.Places.{MayShow, MayTell, MayLearn};
 
 use crate::published::Snapshot;
 use atomic_table::{Join, Split};
@@ -19,16 +20,18 @@ use std::sync::Wait;
 
 pub(crate) type Publisher<T, V, P> = Writer<T, T, V, P>;
 
-// Readers find `next` from now on. At an error they find what they found.
+// Publishes `next`, which readers then find. On an error they still find the old value.
 pub(crate) fn publish_whole<T: Snapshot, V, P: Protocol<T, V>, L: Outcome<T, V>, R: Wait>(
     writer: Publisher<T, V, P>,
     rt: &R,
     next: T,
 ) -> (Publisher<T, V, P>, Result<(), AllocError>)
-    requires { TurnsAt P.holds writer.desk.place.id (view writer.desk.place) writer.desk.shown.value next L.then }
+    requires { MayShow P.holds writer.desk.place writer.desk.shown.value next L.then }
     ensures { MatchResult result.1
-        (λ _. (result.0.desk.shown.value ≡ next) × L.then (view writer.desk.place) writer.desk.shown.value next (view result.0.desk.place))
-        (λ _. (result.0.desk.shown.value ≡ writer.desk.shown.value) × (view result.0.desk.place ≡ view writer.desk.place)) }
+        (λ _. (result.0.desk.shown.value ≡ next)
+        × L.then (view writer.desk.place) writer.desk.shown.value next (view result.0.desk.place))
+        (λ _. (result.0.desk.shown.value ≡ writer.desk.shown.value)
+        × (view result.0.desk.place ≡ view writer.desk.place)) }
 {
     let mut writer = writer;
     if writer.append(next).is_err() {
@@ -46,10 +49,13 @@ pub(crate) fn publish_whole_in<T: Snapshot, V, P: Protocol<T, V>, L: Outcome<T, 
     rt: &R,
     next: T,
 ) -> Result<(), AllocError>
-    requires { TurnsAt P.holds writer.old.desk.place.id (view writer.old.desk.place) writer.old.desk.shown.value next L.then }
+    requires { MayShow P.holds writer.old.desk.place writer.old.desk.shown.value next L.then }
     ensures { MatchResult result
-        (λ _. (writer.new.desk.shown.value ≡ next) × L.then (view writer.old.desk.place) writer.old.desk.shown.value next (view writer.new.desk.place))
-        (λ _. (writer.new.desk.shown.value ≡ writer.old.desk.shown.value) × (view writer.new.desk.place ≡ view writer.old.desk.place)) }
+        (λ _. (writer.new.desk.shown.value ≡ next)
+        × L.then (view writer.old.desk.place) writer.old.desk.shown.value next
+        (view writer.new.desk.place))
+        (λ _. (writer.new.desk.shown.value ≡ writer.old.desk.shown.value)
+        × (view writer.new.desk.place ≡ view writer.old.desk.place)) }
 {
     replace_with(
         writer,
@@ -58,15 +64,18 @@ pub(crate) fn publish_whole_in<T: Snapshot, V, P: Protocol<T, V>, L: Outcome<T, 
     )
 }
 
-// A new reader that has learned what the writer tells. `None` where each place is in use.
+// A new reader that has learned what the writer tells, or `None` if every place is in use.
 pub(crate) fn informed_reader<T: Snapshot, V, P: Protocol<T, V>, N: Split<V> + Join<V>>(
     writer: &mut Publisher<T, V, P>,
 ) -> Option<Reader<T, V, P>>
     requires admits { Admits P.holds P.first }
-    requires tells { Forks P.holds writer.old.desk.place.id (view writer.old.desk.place) (N.left (view writer.old.desk.place)) (N.right (view writer.old.desk.place)) }
-    requires learns { (seat other : ℕ) → Merges P.holds seat P.first other (N.right (view writer.old.desk.place)) (N.both P.first (N.right (view writer.old.desk.place))) N.spent }
-    ensures informed { IfSome result (λ r. view r.place ≡ N.both P.first (N.right (view writer.old.desk.place))) }
-    ensures kept { IfSome result (λ _. (writer.new.desk.shown.value ≡ writer.old.desk.shown.value) × (view writer.new.desk.place ≡ N.left (view writer.old.desk.place))) }
+    requires tells { MayTell P.holds writer.old.desk.place N.left N.right }
+    requires learns { MayLearn P.holds P.first (N.right (view writer.old.desk.place)) N.both N.spent }
+    ensures informed { IfSome result (λ r.
+        view r.place ≡ N.both P.first (N.right (view writer.old.desk.place))) }
+    ensures shown { IfSome result (λ _. writer.new.desk.shown.value ≡ writer.old.desk.shown.value) }
+    ensures kept { IfSome result (λ _.
+        view writer.new.desk.place ≡ N.left (view writer.old.desk.place)) }
     ensures none { IfNone result (writer.new ≡ writer.old) }
 {
     let mut reader = writer.factory().reader().ok()?;
@@ -74,7 +83,7 @@ pub(crate) fn informed_reader<T: Snapshot, V, P: Protocol<T, V>, N: Split<V> + J
     Some(reader)
 }
 
-// The same, and waits where each place is in use.
+// The same, but waits while every place is in use.
 pub(crate) fn informed_reader_at_last<
     T: Snapshot,
     V,
@@ -83,10 +92,11 @@ pub(crate) fn informed_reader_at_last<
     R: Wait,
 >(writer: &mut Publisher<T, V, P>, rt: &R) -> Reader<T, V, P>
     requires admits { Admits P.holds P.first }
-    requires tells { Forks P.holds writer.old.desk.place.id (view writer.old.desk.place) (N.left (view writer.old.desk.place)) (N.right (view writer.old.desk.place)) }
-    requires learns { (seat other : ℕ) → Merges P.holds seat P.first other (N.right (view writer.old.desk.place)) (N.both P.first (N.right (view writer.old.desk.place))) N.spent }
+    requires tells { MayTell P.holds writer.old.desk.place N.left N.right }
+    requires learns { MayLearn P.holds P.first (N.right (view writer.old.desk.place)) N.both N.spent }
     ensures informed { view result.place ≡ N.both P.first (N.right (view writer.old.desk.place)) }
-    ensures kept { (writer.new.desk.shown.value ≡ writer.old.desk.shown.value) × (view writer.new.desk.place ≡ N.left (view writer.old.desk.place)) }
+    ensures shown { writer.new.desk.shown.value ≡ writer.old.desk.shown.value }
+    ensures kept { view writer.new.desk.place ≡ N.left (view writer.old.desk.place) }
 {
     for _ in rt.forever() {
         if let Some(reader) = informed_reader::<T, V, P, N>(writer) {

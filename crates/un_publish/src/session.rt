@@ -2,17 +2,17 @@
 //!
 //! A read has to give a state that is whole, and no older than what the caller has seen or was told of, and it may not
 //! wait for a writer that is about to publish. So a session enters the copy that is published at that moment, by one
-//! exchange of a word, takes a reference to the state and the beginning of the log beside it, and leaves. What it has
-//! seen is kept as that beginning. By the rule of the board the next entering finds a log that begins with it.
+//! exchange of a word, takes a reference to the state and the prefix of the log beside it, and leaves. The session keeps
+//! that prefix as what it has seen. By the rule of the board the next read finds a log that begins with it.
 //!
-//! A read takes a few atomic steps and copies no state.
-ghost use Rattle.std.specs.Prelude.{◌≡◌, ◌+◌, ◌≤◌, ◌<◌, ◌^◌, [], length, IfOk, IfErr, OnOk, MatchResult, MatchOption, IfSome};
+//! A read takes a few atomic operations and copies no state.
+ghost use Rattle.std.specs.Prelude.{◌≡◌, ◌+◌, ◌≤◌, ◌<◌, ◌^◌, [], length, IfOk, IfErr, OnOk, MatchOption};
 ghost use mathlib.Core.List.{IsPrefix};
 ghost use Rattle.std.specs.Arc.{arc_value};
 ghost use Rattle.left_right.specs.Sides.{view};
 ghost use Rattle.un_machine.specs.Logs.{Reaches, entries_of};
-ghost use Rattle.un_publish.specs.Rule.{Sees};
-ghost use Rattle.un_publish.specs.Models.{AreFresh, fresh, risen, SessionModel};
+ghost use Rattle.un_publish.specs.Rule.{Finds};
+ghost use Rattle.un_publish.specs.Models.{AreFresh, fresh, risen, SessionModel, with_own_entry};
 ghost use Rattle.un_publish.specs.Faults.{IsReadFault, IsTeachFault};
 
 use crate::prefix::Prefix;
@@ -24,7 +24,7 @@ use std::marker::Model;
 use std::sync::Arc;
 use un_machine::{Entry, Machine};
 
-/// A state of the machine, after so many entries of the log. It never changes, whatever is committed while it is held.
+/// A state of the machine after the first `version` entries of the log. It never changes, whatever is committed while it is held.
 #[derive(Drop)]
 pub struct View<M> {
     /// How many entries of the log lead to the state.
@@ -32,12 +32,12 @@ pub struct View<M> {
     pub state: Arc<M>,
 }
 
-/// Why a session can't go on, where memory is there. None of these is expected to come; each is counted by the session.
+/// Why a session can't go on, other than running out of memory. None of these is expected; the session counts each one.
 #[derive(Clone, Copy, Debug, PartialEq, Eq)]
 pub enum Denied {
     /// There was no copy to enter.
     NoCopy,
-    /// The log has so many entries with the session's number, and the session counts another number as its own.
+    /// The log has `book` entries with the session's number, but the session counts `own` as its own.
     Book { book: u64, own: u64 },
     /// The session has seen more entries than the log has.
     Long { seen: u64, log: u64 },
@@ -52,7 +52,7 @@ pub enum SessionFault {
 
 pub(crate) type BoardReader<M, J> = Reader<Published<M, J>, Known<M>, BoardRule>;
 
-// What an entering found. There is no state where no reference to it could be had.
+// What an entering found. `state` is `None` if no reference to it could be taken.
 #[derive(Drop)]
 pub(crate) struct Found<M: Machine, J: BoardName<M>> {
     pub(crate) prefix: Prefix<Entry<M>, J>,
@@ -64,7 +64,7 @@ pub(crate) fn enter<M: Machine, J: BoardName<M>>(
     reader: BoardReader<M, J>,
 ) -> (BoardReader<M, J>, Option<Found<M, J>>)
     ensures { MatchOption result.1 (view result.0.place ≡ view reader.place)
-        (λ f. (s : M) × Sees (view reader.place) (s, f.prefix) (view result.0.place) × Reaches M.step J.opening f.prefix s × IfSome f.state (λ a. arc_value a ≡ s)) }
+        (λ f. Finds M.step J.opening (view reader.place) f.prefix f.state (view result.0.place)) }
 {
     match reader.enter_as::<Looks>() {
         Ok(reading) => {
@@ -80,13 +80,14 @@ pub(crate) fn enter<M: Machine, J: BoardName<M>>(
 // The same in place.
 fn enter_in<M: Machine, J: BoardName<M>>(reader: &mut BoardReader<M, J>) -> Option<Found<M, J>>
     ensures { MatchOption result (view reader.new.place ≡ view reader.old.place)
-        (λ f. (s : M) × Sees (view reader.old.place) (s, f.prefix) (view reader.new.place) × Reaches M.step J.opening f.prefix s × IfSome f.state (λ a. arc_value a ≡ s)) }
+        (λ f. Finds M.step J.opening (view reader.old.place) f.prefix f.state
+        (view reader.new.place)) }
 {
     replace_with(reader, (), |reader, _| enter(reader))
 }
 
-/// One caller's place at a board. Contracts see its number, the beginning of the log that it has seen, how many of these
-/// entries are its own, and its two counts. Its own entries are the first so many of those with its number.
+/// One caller's place at a board. Contracts see its number, the prefix of the log that it has seen, how many of these
+/// entries are its own, and its two counts. Its own entries are the first `own` of those with its number.
 #[derive(Drop)]
 pub struct Session<M: Machine, J: BoardName<M>> {
     reader: BoardReader<M, J>,
@@ -111,10 +112,10 @@ impl<M: Machine, J: BoardName<M>> Model for Session<M, J> {
     ghost invariant = { λ s. IsReady (known_by s.reader.place) s.prefix × (s.own ≤ length (entries_of s.number s.prefix)) × (s.number < 64) };
 }
 
-// What makes readers at a board.
+// Makes the readers of a board.
 pub(crate) type ReaderFactory<M, J> = Factory<Published<M, J>, Known<M>, BoardRule>;
 
-// So many sessions, which are numbered from 0 on and have seen nothing.
+// `count` sessions, which are numbered from 0 and have seen nothing.
 pub(crate) fn sessions_at<M: Machine, J: BoardName<M>>(
     alloc: Global,
     readers: &ReaderFactory<M, J>,
@@ -176,8 +177,8 @@ impl<M: Machine, J: BoardName<M>> Session<M, J> {
         self.own
     }
 
-    /// How many calls were denied: each answer `Denied` of a read, and of a board that teaches the session or checks its
-    /// book, adds one. It stays at the greatest `u64`.
+    /// How many calls were denied: each `Denied` that a read returns, or a board that teaches the session or checks its
+    /// book, adds one. The count saturates at `u64::MAX`.
     pub fn denied(&self) -> u64
         ensures { result ≡ self.now.denied }
     {
@@ -191,7 +192,7 @@ impl<M: Machine, J: BoardName<M>> Session<M, J> {
         self.waits
     }
 
-    /// Counts one call that may wait. The count stays at the greatest `u64`.
+    /// Counts one call that may wait. The count saturates at `u64::MAX`.
     pub fn count_wait(&mut self)
         ensures { self.new ≡ record self.old { waits = risen self.old.waits } }
     {
@@ -205,13 +206,15 @@ impl<M: Machine, J: BoardName<M>> Session<M, J> {
         self.denied = self.denied.saturating_add(1);
     }
 
-    /// The state after a beginning of the log that begins with all that the session had seen, and which it has then
-    /// seen. It waits for nobody. `NoCopy` is the only `Denied`. At `Memory` there was no further reference to the
-    /// state to be had, and the session may have seen more.
+    /// The state after a prefix of the log, which begins with all that the session had seen, and which it has then
+    /// seen. It never waits. `NoCopy` is the only `Denied`. On `Memory` no further reference to the state could be taken,
+    /// and the session may have seen more.
     pub fn read(&mut self) -> Result<View<M>, SessionFault>
-        ensures ok { IfOk result (λ v. (v.version ≡ length self.new.seen) × Reaches M.step J.opening self.new.seen (arc_value v.state)) }
+        ensures version { IfOk result (λ v. v.version ≡ length self.new.seen) }
+        ensures state { IfOk result (λ v. Reaches M.step J.opening self.new.seen (arc_value v.state)) }
         ensures seen { IsPrefix self.old.seen self.new.seen }
-        ensures kept { MatchResult result (λ _. self.new ≡ record self.old { seen = self.new.seen }) (λ f. IsReadFault self.old self.new f) }
+        ensures kept { OnOk result (self.new ≡ record self.old { seen = self.new.seen }) }
+        ensures fault { IfErr result (IsReadFault self.old self.new) }
     {
         match enter_in(&mut self.reader) {
             Some(Found { prefix, state }) => {
@@ -229,7 +232,7 @@ impl<M: Machine, J: BoardName<M>> Session<M, J> {
         }
     }
 
-    // Enters by a new reader that was told the whole log.
+    // Enters with a new reader that was told the whole log.
     pub(crate) fn learn_log(
         &mut self,
         reader: BoardReader<M, J>,
@@ -250,7 +253,7 @@ impl<M: Machine, J: BoardName<M>> Session<M, J> {
             state: _,
         } = found;
         if !self.prefix.begins(&published) {
-            // The session keeps the longer beginning, and the reader that finds no less.
+            // The session keeps the longer prefix, and the reader that finds no less.
             return Err(self.denied_as_long(log));
         }
         self.reader = reader;
@@ -261,7 +264,7 @@ impl<M: Machine, J: BoardName<M>> Session<M, J> {
         Ok(())
     }
 
-    // Counts one call that was denied, since the session has seen more than the log has.
+    // Counts one call that was denied because the session has seen more entries than the log has.
     fn denied_as_long(&mut self, log: &Prefix<Entry<M>, J>) -> Denied
         ensures counted { self.new ≡ record self.old { denied = risen self.old.denied } }
         ensures long { result ≡ Denied.Long (length self.old.seen) (length log.now) }
@@ -277,7 +280,7 @@ impl<M: Machine, J: BoardName<M>> Session<M, J> {
     pub(crate) fn add_own_entry(&mut self, informed: BoardReader<M, J>, log: &Prefix<Entry<M>, J>)
         requires told { (view informed.place).told ≡ log.now }
         requires own { self.old.own < length (entries_of self.old.number log.now) }
-        ensures { self.new ≡ record self.old { seen = log.now; own = self.old.own + 1 } }
+        ensures { self.new ≡ with_own_entry log.now self.old }
     {
         // For the proof alone.
         let _most = log.len();

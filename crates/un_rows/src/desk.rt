@@ -144,7 +144,9 @@ fn insert_and_read<J: BoardName<Net>, R: Wait + Abort>(
     insert: Command,
 ) {
     let first = desk.submit(rt, alloc, zero, insert);
-    assert!(rt; first.is_ok_and(|r| r.version == 1 && r.accepted && edited_id(&r.reply) == Some(1)));
+    assert!(rt;
+        first.is_ok_and(|r| r.version == 1 && r.accepted && edited_id(&r.reply) == Some(1))
+    );
     let short = desk.read_at_least(rt, one, 2);
     assert!(rt; short.is_err_and(|fault| is_ahead(fault)));
     let view = desk.read_at_least(rt, one, 1);

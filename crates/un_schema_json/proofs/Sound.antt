@@ -10,7 +10,7 @@ use Rattle.un_schema.specs.Sound.{IsCatalog}
 use Rattle.un_schema.specs.Raw.{bad_place, catalog_from}
 use Rattle.un_schema.proofs.GoodSchemas.{good_schema}
 use Rattle.un_tiers.specs.declared.tier.Tier.{Tier}
-use Rattle.un_json.specs.Rows.{needed, only, without_others, mapped, and_then}
+use Rattle.un_json.specs.Rows.{required_member, no_others, without_others, mapped, and_then}
 use Rattle.un_json.specs.Requests.{json_of}
 use Rattle.un_schema_json.specs.declared.source.Source.{Source}
 use Rattle.un_schema_json.specs.declared.source.Source.TheVariants.{BuiltIn, Given}
@@ -46,13 +46,13 @@ built_in_good : IsCatalog (catalog_from built_in)
 built_in_good = good_schema built_in refl
 
 source_good : (source : Source) (d : Data) → IsGood (schema_from source d)
-source_good BuiltIn d = others_good (Ok (catalog_from built_in, [])) (only built_in_places d) built_in_good
+source_good BuiltIn d = others_good (Ok (catalog_from built_in, [])) (no_others built_in_places d) built_in_good
 source_good (Given format) d =
-    others_good (and_then (with_tiers d) (catalog_of (given format d))) (only given_places d)
+    others_good (and_then (with_tiers d) (catalog_of (given format d))) (no_others given_places d)
     (with_tiers_good d (catalog_of (given format d)) (catalog_good (given format d)))
 
 object_good : (d : Data) → IsGood (object_schema d)
-object_good d = go (needed place.Schema source_of d)
+object_good d = go (required_member place.Schema source_of d)
   where
     go : (r : Result Source Place) → IsGood (and_then (λ source. schema_from source d) r)
     go (Err p) = tt

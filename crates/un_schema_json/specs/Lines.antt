@@ -10,7 +10,7 @@ use Rattle.un_schema.specs.Catalog.{Catalog}
 use Rattle.un_schema.specs.Raw.{bad_place, catalog_from}
 use Rattle.un_tiers.specs.declared.tier.Tier.{Tier}
 use Rattle.un_tiers.specs.Raw.{WrittenTier, first_bad, tier_from}
-use Rattle.un_json.specs.Rows.{needed, only, without_others, mapped, and_then}
+use Rattle.un_json.specs.Rows.{required_member, no_others, without_others, mapped, and_then}
 use Rattle.un_json.specs.Requests.{json_of}
 use Rattle.un_schema_json.specs.declared.source.Source.{Source}
 use Rattle.un_schema_json.specs.declared.source.Source.TheVariants.{BuiltIn, Given}
@@ -39,11 +39,11 @@ with_tiers d S = mapped (λ tiers. (S, tiers)) (tiers_over S (tiers_of d))
 
 -- a schema of a format: the first bad member in order, or else `extra` where there are other members
 abbrev pub given_in : Format → Data → Result (Catalog × List Tier) Place
-given_in format d = without_others (and_then (with_tiers d) (catalog_of (given format d))) (only given_places d)
+given_in format d = without_others (and_then (with_tiers d) (catalog_of (given format d))) (no_others given_places d)
 
 -- the schema that is built in: it has no tiers, and no other members stand beside its number
 abbrev pub built_in_by : Data → Result (Catalog × List Tier) Place
-built_in_by d = without_others (Ok (catalog_from built_in, [])) (only built_in_places d)
+built_in_by d = without_others (Ok (catalog_from built_in, [])) (no_others built_in_places d)
 
 abbrev pub schema_from : Source → Data → Result (Catalog × List Tier) Place
 schema_from BuiltIn d = built_in_by d
@@ -51,7 +51,7 @@ schema_from (Given format) d = given_in format d
 
 -- the schema that an object is
 abbrev pub object_schema : Data → Result (Catalog × List Tier) Place
-object_schema d = and_then (λ source. schema_from source d) (needed place.Schema source_of d)
+object_schema d = and_then (λ source. schema_from source d) (required_member place.Schema source_of d)
 
 abbrev pub value_schema : Option Data → Result (Catalog × List Tier) Place
 value_schema None = Err place.Whole

@@ -7,7 +7,7 @@
 ghost use Rattle.std.specs.Prelude.{◌≡◌, IfOk, IfErr, Ok, Err, Some, None};
 ghost use Rattle.serde_json.specs.View.{view};
 ghost use Rattle.un_json.specs.Requests.{json_of};
-ghost use Rattle.un_json.specs.Rows.{needed};
+ghost use Rattle.un_json.specs.Rows.{required_member};
 ghost use Rattle.un_schema.specs.SchemaFaults.{OnBadSchema};
 ghost use Rattle.un_schema.specs.declared.place.Place.TheVariants as place;
 ghost use Rattle.un_schema_json.specs.Table.{source_of};
@@ -69,11 +69,11 @@ fn read_value(alloc: Global, value: &Value) -> Result<(Schema, Tiers), SchemaFau
     read_from(alloc, source, value)
 }
 
-#[tactic(auto, unfolding(un_json::specs::Rows::needed))]
+#[tactic(auto, unfolding(un_json::specs::Rows::required_member))]
 fn source_at(object: &Value) -> Result<Source, SchemaFault>
-    ensures ok { IfOk result (λ source. needed place.Schema source_of (view object.now) ≡ Ok source) }
+    ensures ok { IfOk result (λ source. required_member place.Schema source_of (view object.now) ≡ Ok source) }
     ensures bad { IfErr result
-        (λ fault. OnBadSchema fault (λ p. needed place.Schema source_of (view object.now) ≡ Err p)) }
+        (λ fault. OnBadSchema fault (λ p. required_member place.Schema source_of (view object.now) ≡ Err p)) }
 {
     match object.get(Place::Schema.text()).and_then(source_of) {
         Some(source) => Ok(source),

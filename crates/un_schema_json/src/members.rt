@@ -2,7 +2,7 @@
 ghost use Rattle.std.specs.Prelude.{◌≡◌, IfOk, IfErr, OnOk, Ok, Err};
 ghost use Rattle.serde_json.specs.View.{view};
 ghost use Rattle.un_json.specs.Forms.{list_from_to};
-ghost use Rattle.un_json.specs.Rows.{only};
+ghost use Rattle.un_json.specs.Rows.{no_others};
 ghost use Rattle.un_schema.specs.SchemaFaults.{OnBadSchema};
 ghost use Rattle.un_schema_json.specs.Table.{member_of, given, given_places};
 ghost use Rattle.un_schema_json.specs.Lines.{catalog_of, given_in};
@@ -57,10 +57,10 @@ fn schema_of(alloc: Global, format: Format, object: &Value) -> Result<Schema, Sc
 }
 
 /// Refuses an object that has a member with another name than these.
-#[tactic(auto, unfolding(un_json::specs::Rows::only))]
+#[tactic(auto, unfolding(un_json::specs::Rows::no_others))]
 pub(crate) fn refuse_others(object: &Value, places: &[Place]) -> Result<(), SchemaFault>
-    ensures ok { OnOk result (only places.now (view object.now) ≡ Ok tt) }
-    ensures bad { IfErr result (λ fault. OnBadSchema fault (λ place. only places.now (view object.now) ≡ Err place)) }
+    ensures ok { OnOk result (no_others places.now (view object.now) ≡ Ok tt) }
+    ensures bad { IfErr result (λ fault. OnBadSchema fault (λ place. no_others places.now (view object.now) ≡ Err place)) }
 {
     match object.as_object() {
         Some(members) if some_other(members, places) => {

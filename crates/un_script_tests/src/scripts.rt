@@ -1,7 +1,7 @@
-use un_script::run_script;
 use std::alloc::{AllocError, Global};
 use std::test::Fail;
 use un_io::{MemSink, MemSource, Plan, Word};
+use un_script::run_script;
 use un_steps::Steps;
 
 // More room than any output here needs.
