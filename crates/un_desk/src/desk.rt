@@ -1,10 +1,10 @@
-//! The desk: what threads share. Edits go one after another behind one lock, and reads go beside it.
+//! The desk: what threads share. Edits are serialized by one lock, and reads need no lock.
 //!
-//! Each call of a desk takes the lock of the journal, so it may wait, and counts one wait for each session that it takes.
-//! Reading needs no desk: a session reads by itself, without the lock. What is behind the lock can't be named by a
-//! clause, since other threads change it before and after the call. But a journal's type says that its log is legal
-//! and leads to its state, and a session holds a beginning of the one log. So a clause says that there is a journal, with
-//! a legal log that begins with all that the session had seen, and of which the answer is true.
+//! Each call of a desk locks the journal, so it may wait, and it counts one wait for each session that it is given.
+//! Reading needs no desk: a session reads by itself, without the lock. A clause can't name what the lock protects,
+//! since other threads change it before and after the call. But a journal's type says that its log is legal and leads
+//! to its state, and a session holds a prefix of that one log. So a clause says that there is a journal whose legal log
+//! begins with all that the session had seen, and for which the answer is right.
 ghost use Rattle.std.specs.Prelude.{◌≡◌, ◌⊎◌, ◌≤◌, ◌<◌, ◌∷◌, [], length, IfOk, IfErr, OnOk, OnErr};
 ghost use mathlib.Core.List.{IsPrefix};
 ghost use Rattle.std.specs.Arc.{arc_value};
@@ -33,7 +33,7 @@ where
     journal: Mutex<ManuallyDrop<Journal<M, J>>>,
 }
 
-/// Why there is no view.
+/// Why a call returns no view.
 #[derive(Drop)]
 pub enum ViewFault {
     /// The log has fewer entries than were asked for. The session has then seen all of them.
@@ -47,7 +47,7 @@ impl<M: Machine, J: BoardName<M>> Desk<M, J>
 where
     Published<M, J>: Snapshot<State = Published<M, J>>,
 {
-    /// A desk whose log is empty, and so many sessions at it, which are numbered from 0 on. It waits for readers.
+    /// A desk with an empty log, and this many sessions at it, numbered from 0. It waits for readers.
     pub fn open<R: Wait>(
         rt: &R,
         alloc: Global,
@@ -69,7 +69,7 @@ where
         let (board, all) = Board::<M, J>::open(rt, alloc, new_log, other, sessions)?;
         match Journal::<M, J>::open(alloc, board, state) {
             Ok(journal) => {
-                // A journal can't be dropped, so `close` takes it out and ends it.
+                // A journal can't be dropped, so `close` takes it out and closes it.
                 let journal = unsafe { ManuallyDrop::new_unchecked(journal) };
                 let desk = Desk {
                     journal: Mutex::new(journal),
@@ -83,8 +83,8 @@ where
         }
     }
 
-    /// Decides a command at the whole log, and adds it to the log where the machine's step is done. Either way the session
-    /// has then seen the whole log. At `Memory` and `Denied` nothing was committed, and the session may have seen more.
+    /// Decides a command at the end of the log, and adds it to the log if the machine's step is done. Either way the session
+    /// has then seen the whole log. On `Memory` and `Denied` nothing was committed, and the session may have seen more.
     pub fn submit<R: Wait>(
         &self,
         rt: &R,
@@ -101,7 +101,7 @@ where
         journal.commit(rt, alloc, session, cmd, None)
     }
 
-    /// The same, with work for this command that was done ahead, at a state that the session has seen.
+    /// The same, with a hint: work for this command that was done in advance, at a state that the session has seen.
     pub fn submit_prepared<R: Wait>(
         &self,
         rt: &R,
@@ -123,7 +123,7 @@ where
         journal.commit(rt, alloc, session, cmd, Some(hint))
     }
 
-    /// Lets both sessions see the whole log at one moment. It takes no memory. `Denied` is `NoCopy` or `Long`.
+    /// Lets both sessions see the whole log at the same moment. It allocates nothing. `Denied` is `NoCopy` or `Long`.
     pub fn meet<R: Wait>(
         &self,
         rt: &R,
@@ -144,8 +144,8 @@ where
         journal.teach(b)
     }
 
-    /// A view after at least so many entries of the log, which is what the session has then seen. `Ahead` comes exactly
-    /// where the whole log has fewer.
+    /// A view after the whole log, if that has at least `seen` entries; the session has then seen all of it. It returns `Ahead`
+    /// if the log has fewer.
     pub fn read_at_least<R: Wait>(
         &self,
         rt: &R,

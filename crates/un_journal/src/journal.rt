@@ -1,20 +1,20 @@
 //! The journal: the one value behind the lock, which decides commands one after another.
 //!
-//! A commit has to give each command one place in one log, tell its session the reply of the step at that place, and
-//! leave everything as it was where it gives up. The journal keeps the entries, the last state, and for each session
+//! A commit has to give each command one place in one log, return to its session the reply of the step at that place,
+//! and leave everything unchanged if it fails. The journal keeps the entries, the last state, and for each session
 //! the book, which is the number of the session's entries. A commit goes in this order:
 //!
 //! 1. it compares the session's book with the number of entries that the session counts as its own;
 //! 2. it lets the session learn the whole log;
 //! 3. it asks the machine for its step at the last state;
-//! 4. where the step is done, it takes all the memory that the rest needs, adds the entry, and publishes the next state;
-//! 5. it writes the entry and the book down, and lets the session learn the new log.
+//! 4. if the step is done, it allocates all the memory that the rest needs, adds the entry, and publishes the next state;
+//! 5. it records the entry and the book, and lets the session learn the new log.
 //!
-//! Publishing is the last step that can be refused, so a commit that gives up has changed nothing but what the session
-//! has seen. The book is there because the log alone doesn't say which of its entries a session knows as its own: where
-//! the two numbers agree, the log has no entry of this session that the session doesn't know of.
+//! Publishing is the last step that can fail, so a failed commit has changed nothing but what the session has seen. The
+//! book is there because the log alone doesn't say which of its entries a session knows as its own: if the two numbers
+//! agree, the log has no entry of this session that the session doesn't know of.
 //!
-//! A commit costs the machine's step and a few atomic steps, whatever the log's length is. It waits for readers of the
+//! A commit costs the machine's step and a few atomic operations, however long the log is. It waits for readers of the
 //! copy that it replaces.
 ghost use Rattle.std.specs.Prelude.{◌≡◌, ◌⊎◌, ◌+◌, ◌≤◌, ◌<◌, ◌++◌, ◌∷◌, [], true, false, length, drop, IfOk, IfErr, IfSome, OnOk, OnErr};
 ghost use Rattle.std.proofs.Common.{inl};
@@ -22,7 +22,8 @@ ghost use Rattle.std.specs.Arc.{arc_value};
 ghost use mathlib.Core.List.{IsPrefix};
 ghost use Rattle.un_machine.specs.Logs.{answer_of, entries_of, Reaches};
 ghost use Rattle.un_publish.specs.Faults.{IsTeachFault};
-ghost use Rattle.un_journal.specs.Books.{IsPrepared, entry};
+ghost use Rattle.un_publish.specs.Models.{with_own_entry};
+ghost use Rattle.un_journal.specs.Books.{IsAhead, IsPrepared, entry};
 ghost use Rattle.un_journal.specs.Commits.{IsCommitDenial, IsCommitFault, IsReceipt};
 
 use crate::receipt::{Ahead, Receipt};
@@ -69,7 +70,7 @@ impl<M: Machine, J: BoardName<M>> Journal<M, J>
 where
     Published<M, J>: Snapshot<State = Published<M, J>>,
 {
-    /// The journal of a board that was just opened with this state. At an error the board comes back as it was.
+    /// The journal of a board that was just opened with this state. On an error the board is returned unchanged.
     pub fn open(
         alloc: Global,
         board: Board<M, J>,
@@ -108,10 +109,10 @@ where
         &self.entries.as_slice()[from as usize..]
     }
 
-    /// Whether the log has as many entries. It has fewer exactly where the answer is `Ahead`.
+    /// Checks that the log has at least `seen` entries, and returns `Ahead` if it has fewer.
     pub fn check_seen(&self, seen: u64) -> Result<(), Ahead>
         ensures ok { OnOk result (seen ≤ length self.now.log) }
-        ensures ahead { IfErr result (λ a. (a.seen ≡ seen) × (a.latest ≡ length self.now.log) × (length self.now.log < seen)) }
+        ensures ahead { IfErr result (IsAhead self.now.log seen) }
     {
         let latest = self.len();
         if seen <= latest {
@@ -122,7 +123,9 @@ where
 
     /// The state after the whole log.
     pub fn view(&self) -> Result<View<M>, AllocError>
-        ensures { IfOk result (λ v. (v.version ≡ length self.now.log) × (arc_value v.state ≡ self.now.state) × Reaches M.step J.opening self.now.log self.now.state) }
+        ensures version { IfOk result (λ v. v.version ≡ length self.now.log) }
+        ensures state { IfOk result (λ v. arc_value v.state ≡ self.now.state) }
+        ensures reaches { IfOk result (λ _. Reaches M.step J.opening self.now.log self.now.state) }
     {
         let Ok(state) = Arc::try_clone(&self.state) else {
             return Err(AllocError);
@@ -143,12 +146,12 @@ where
         self.board.teach(session)
     }
 
-    /// Decides a command at the whole log, which it adds to the log where the machine's step is done. Either way the
-    /// session has then seen the whole log. A hint is work that was done ahead for this command, at the state after the
-    /// first so many entries of this log. It waits for readers.
+    /// Decides a command at the end of the log, and adds it to the log if the machine's step is done. Either way the
+    /// session has then seen the whole log. A hint is work that was done in advance for this command, at the state after
+    /// some first entries of this log. It waits for readers.
     ///
-    /// `Book` comes exactly where the session's book isn't the number of its own entries, before anything else is done;
-    /// each other `Denied` comes from teaching the session.
+    /// It returns `Book` exactly if the session's book isn't the number of its own entries, which is checked before
+    /// anything else; each other `Denied` comes from teaching the session.
     pub fn commit<R: Wait>(
         &mut self,
         rt: &R,
@@ -204,7 +207,8 @@ where
     // Compares the book of the session, and lets the session learn the log.
     fn bring_up(&mut self, session: &mut Session<M, J>) -> Result<(), Denied>
         ensures journal { self.new ≡ self.old }
-        ensures ok { OnOk result ((length (entries_of session.old.number self.old.log) ≡ session.old.own) × (session.new ≡ record session.old { seen = self.old.log })) }
+        ensures ok { OnOk result ((length (entries_of session.old.number self.old.log) ≡ session.old.own)
+            × (session.new ≡ record session.old { seen = self.old.log })) }
         ensures denied { IfErr result (IsCommitDenial self.old session.old session.new) }
         ensures seen { IsPrefix session.old.seen session.new.seen }
     {
@@ -213,7 +217,7 @@ where
         self.board.teach(session)
     }
 
-    // The machine's step at the last state, by the hint where there is one.
+    // The machine's step at the last state, using the hint if there is one.
     fn decide(
         &self,
         alloc: Global,
@@ -232,9 +236,11 @@ where
         state.apply(alloc, cmd, hint, since)
     }
 
-    // What a refused commit answers, once the session has seen the log.
+    // The receipt of a refused commit, once the session has seen the log.
     fn refuse(&self, reply: M::Reply) -> Result<Receipt<M>, AllocError>
-        ensures { IfOk result (λ r. (r.version ≡ length self.now.log) × (r.accepted ≡ false) × (r.reply ≡ reply) × (r.view.version ≡ r.version) × (arc_value r.view.state ≡ self.now.state)) }
+        ensures { IfOk result (λ r. (r.version ≡ length self.now.log) × (r.accepted ≡ false)
+            × (r.reply ≡ reply) × (r.view.version ≡ r.version)
+            × (arc_value r.view.state ≡ self.now.state)) }
     {
         let view = self.view()?;
         Ok(Receipt {
@@ -245,7 +251,7 @@ where
         })
     }
 
-    // Makes all growths, adds the entry and publishes. From then on nothing can be refused. At an error nothing has changed.
+    // Allocates everything, adds the entry and publishes; after that nothing can fail. On an error nothing has changed.
     fn accept<R: Wait>(
         &mut self,
         rt: &R,
@@ -258,7 +264,10 @@ where
     ) -> Result<Receipt<M>, AllocError>
         requires number { number < 64 }
         requires steps { M.step self.old.state cmd ≡ inl (next, (reply, mark)) }
-        ensures ok { IfOk result (λ r. (self.new ≡ record { log = self.old.log ++ entry self.old.log number cmd reply mark ∷ []; state = next }) × (r.version ≡ length self.new.log) × (r.accepted ≡ true) × (r.reply ≡ reply) × (r.view.version ≡ r.version) × (arc_value r.view.state ≡ next)) }
+        ensures ok { IfOk result (λ r.
+            (self.new ≡ record { log = self.old.log ++ entry self.old.log number cmd reply mark ∷ []; state = next })
+            × (r.version ≡ length self.new.log) × (r.accepted ≡ true) × (r.reply ≡ reply)
+            × (r.view.version ≡ r.version) × (arc_value r.view.state ≡ next)) }
         ensures memory { OnErr result (self.new ≡ self.old) }
     {
         let (Ok(copy), Ok(next)) = (M::copy_reply(alloc, &reply), Arc::new(alloc, next)) else {
@@ -298,7 +307,7 @@ where
     fn teach_committed<R: Wait>(&mut self, rt: &R, session: &mut Session<M, J>)
         requires { session.old.own < length (entries_of session.old.number self.old.log) }
         ensures journal { self.new ≡ self.old }
-        ensures session { session.new ≡ record session.old { seen = self.old.log; own = session.old.own + 1 } }
+        ensures session { session.new ≡ with_own_entry self.old.log session.old }
     {
         self.board.teach_committed(rt, session);
     }
