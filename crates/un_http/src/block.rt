@@ -1,4 +1,4 @@
-//! Where the block of a request begins and where it ends.
+//! Where the block of a request begins and ends.
 ghost use Rattle.std.specs.Prelude.{◌≡◌, ◌⊎◌, ℕ, List, [], ◌++◌, ◌≤◌, length, drop, MatchOption, vec_capacity, vec_len};
 ghost use Rattle.std.specs.List.{prefix_len};
 ghost use Rattle.un_http.specs.Block.{is_blank, IsBlank, Begins, ends_block, HasNoEnd, EndsAt};
@@ -10,7 +10,7 @@ fn is_blank(byte: u8) -> bool
     byte == b'\r' || byte == b'\n'
 }
 
-// How many CR and LF bytes stand in front.
+// How many CR and LF bytes the bytes begin with.
 fn blank_len(bytes: &[u8]) -> usize
     ensures value { result ≡ prefix_len is_blank bytes.now }
     ensures within { result ≤ length bytes.now }
@@ -29,7 +29,7 @@ pub(crate) fn drop_prefix(bytes: &mut Vec<u8>, count: usize)
     bytes.truncate(rest);
 }
 
-/// Drops the CR and LF bytes in front.
+/// Drops the CR and LF bytes at the start.
 pub(crate) fn drop_blank(bytes: &mut Vec<u8>)
     ensures dropped { (blank : List ℕ) × IsBlank blank × (bytes.old.items ≡ blank ++ bytes.new.items) }
     ensures begins { (bytes.new.items ≡ []) ⊎ Begins bytes.new.items }

@@ -3,7 +3,7 @@
 /// The check that a request failed. Its response has the status named here, and the link closes after it.
 #[derive(Clone, Copy, Debug, PartialEq, Eq)]
 pub enum Check {
-    /// The block is no request head, or its lengths are not one and the same number: 400.
+    /// The block is not a request head, or its lengths are not all the same number: 400.
     BadHead,
     /// The block doesn't end within 8,192 bytes, or has more than 32 headers: 431.
     ManyHeaders,
@@ -11,6 +11,6 @@ pub enum Check {
     NotSupported,
     /// The length is over 1,048,576: 413.
     LongBody,
-    /// The method is POST, and there is no length: 411.
+    /// The method is POST and there is no length: 411.
     NoLength,
 }

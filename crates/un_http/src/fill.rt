@@ -1,6 +1,6 @@
-//! Reading a link as far as the next request needs.
+//! Reading as much of a link as the next request needs.
 //!
-//! A read that looks for the end of a block may give bytes beyond it. One that fills a body never does.
+//! A read that looks for the end of a block may return bytes after it. One that fills a body never does.
 ghost use Rattle.std.specs.Prelude.{◌≡◌, ◌+◌, ◌*◌, ◌<◌, ◌≤◌, length, vec_len, vec_capacity};
 ghost use Rattle.un_io.specs.Outside.{CountsReads, Rose};
 ghost use Rattle.un_http.specs.Filling.{More, Appended, Skips, BeginsBy, FillsBy, Finds};
@@ -11,7 +11,7 @@ use crate::put::put;
 use std::sync::Wait;
 use un_io::{Got, Link};
 
-/// How reading on ended.
+/// The outcome of reading more bytes.
 #[derive(Clone, Copy, Debug, PartialEq, Eq)]
 pub(crate) enum Filled {
     /// The bytes that were needed are there.
@@ -22,7 +22,7 @@ pub(crate) enum Filled {
     Failed,
 }
 
-/// How the search for the end of a block ended.
+/// The outcome of the search for the end of a block.
 #[derive(Clone, Copy, Debug, PartialEq, Eq)]
 pub(crate) enum Found {
     /// The block has this length.
@@ -35,7 +35,7 @@ pub(crate) enum Found {
     Failed,
 }
 
-/// Reads once, and appends what came: at most `most` bytes. The read goes into `piece` first.
+/// Reads once, and appends the bytes, at most `most` of them. They are read into `piece` first.
 pub(crate) fn read_more<X: Link>(
     link: &mut X,
     piece: &mut [u8],
@@ -60,7 +60,7 @@ pub(crate) fn read_more<X: Link>(
     got
 }
 
-/// Reads on until there are `need` bytes.
+/// Reads until there are `need` bytes.
 pub(crate) fn fill<X: Link>(
     link: &mut X,
     piece: &mut [u8],
@@ -88,7 +88,7 @@ pub(crate) fn fill<X: Link>(
     Filled::Ready
 }
 
-/// Reads on until the block ends that begins at the first byte.
+/// Reads until the end of the block that begins at the first byte.
 pub(crate) fn find_block<X: Link>(link: &mut X, piece: &mut [u8], bytes: &mut Vec<u8>) -> Found
     requires piece { 0 < length piece.old }
     requires room { 2 * MOST_BLOCK ≤ vec_capacity bytes.old }
@@ -118,8 +118,8 @@ pub(crate) fn find_block<X: Link>(link: &mut X, piece: &mut [u8], bytes: &mut Ve
     }
 }
 
-/// Drops the CR and LF bytes before a request, and reads on until one begins. A client that sends them without end
-/// keeps it reading, so it may wait forever.
+/// Drops the CR and LF bytes before a request, and reads until one begins. It may never return, since a client can
+/// send CR and LF bytes endlessly.
 pub(crate) fn skip_blank<R: Wait, X: Link>(
     rt: &R,
     link: &mut X,

@@ -13,7 +13,7 @@ use crate::number::{is_number, small_number};
 use httparse::Status;
 use httparse::spans::{HeaderSpan, RequestSpans, Span, parse_request};
 
-/// The room for headers. A block can't hold more: each has three bytes at least.
+/// The room for headers. A block can't have more, since each has at least three bytes.
 pub(crate) const HEADER_ROOM: usize = 2_731;
 
 /// The greatest length of a block in bytes.
@@ -25,12 +25,12 @@ pub(crate) const MOST_BODY: usize = 1_048_576;
 /// The most headers that a request may have.
 const MOST_HEADERS: usize = 32;
 
-/// What a head says that passes all checks.
+/// The contents of a head that passes all checks.
 #[derive(Clone, Copy, Debug, PartialEq, Eq)]
 pub(crate) struct Passed {
-    /// Where the method stands in the block.
+    /// Where the method is in the block.
     pub method: Span,
-    /// Where the path stands in the block.
+    /// Where the path is in the block.
     pub path: Span,
     /// The length of the body in bytes.
     pub size: usize,
@@ -38,7 +38,7 @@ pub(crate) struct Passed {
     pub close: bool,
 }
 
-// Where the parts of the head stand, if the block is a head at its whole length.
+// Where the parts of the head are, if the whole block is a head.
 fn parse_whole(block: &[u8], headers: &mut [HeaderSpan]) -> Result<RequestSpans, Check>
     requires room { length headers.old ≡ HEADER_ROOM }
     requires short { length block.now ≤ MOST_BLOCK }
@@ -90,7 +90,7 @@ fn path_len(target: &[u8]) -> usize
     target.iter().take_while(|byte| **byte != b'?').count()
 }
 
-// What a head with these headers says, or the first check that it fails.
+// The contents of a head with these headers, or the first check that it fails.
 fn check_headers(block: &[u8], headers: &[HeaderSpan], spans: RequestSpans) -> Result<Passed, Check>
     requires within { AreWithin block.now headers.now }
     requires method { IsWithin (length block.now) spans.method }

@@ -1,4 +1,4 @@
-//! The headers of a block, which are held as their places in it.
+//! The headers of a block, which are stored as spans of it.
 ghost use Rattle.std.specs.Prelude.{◌≡◌, ℕ, ◌&&◌, ◌||◌, not, true, List, ◌∷◌, [], length, codes, MatchOption};
 ghost use Rattle.std.specs.List.{list_all, list_any};
 ghost use Rattle.httparse.specs.Spans.{IsHeaderWithin, header_bytes, span_bytes};
@@ -9,7 +9,7 @@ use crate::list::lists_close;
 use crate::number::{is_number, same_number};
 use httparse::spans::HeaderSpan;
 
-// Whether the header has the name, without regard to case.
+// Whether the header has the name, ignoring case.
 fn is_named(block: &[u8], header: &HeaderSpan, name: &[u8]) -> bool
     requires { IsHeaderWithin (length block.now) header.now }
     ensures { result ≡ is_named name.now (header_bytes block.now header.now) }
@@ -26,7 +26,7 @@ pub(crate) fn has(block: &[u8], headers: &[HeaderSpan], name: &[u8]) -> bool
     has_in(block, headers, name)
 }
 
-// The same, by the places of the headers.
+// The same, over the spans of the headers.
 fn has_in(block: &[u8], headers: &[HeaderSpan], name: &[u8]) -> bool
     requires { AreWithin block.now headers.now }
     ensures { result ≡ list_any (λ header. is_named name.now (header_bytes block.now header)) headers.now }
@@ -69,7 +69,7 @@ pub(crate) fn all_agree(block: &[u8], headers: &[HeaderSpan], name: &[u8], first
     all_agree_in(block, headers, name, first)
 }
 
-// The same, by the places of the headers.
+// The same, over the spans of the headers.
 fn all_agree_in(block: &[u8], headers: &[HeaderSpan], name: &[u8], first: &[u8]) -> bool
     requires within { AreWithin block.now headers.now }
     requires first { is_number first.now ≡ true }
@@ -88,7 +88,7 @@ pub(crate) fn asks_close(block: &[u8], headers: &[HeaderSpan]) -> bool
     asks_close_in(block, headers)
 }
 
-// The same, by the places of the headers.
+// The same, over the spans of the headers.
 fn asks_close_in(block: &[u8], headers: &[HeaderSpan]) -> bool
     requires { AreWithin block.now headers.now }
     ensures { result ≡ list_any (λ header. is_named (codes "connection") (header_bytes block.now header)

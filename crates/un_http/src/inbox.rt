@@ -1,7 +1,7 @@
 //! The inbox of a link: it gives the requests in the link's bytes, one after another.
 //!
-//! The bytes of one request stand together, so its method, path and body are slices of them. What has come after the
-//! request is moved to the front by the next call: it is at most the surplus of one read after a head.
+//! The bytes of one request are contiguous, so its method, path and body are slices of them. The next call moves the
+//! bytes after the request to the start: they are at most the surplus of one read after a head.
 ghost use Rattle.std.specs.Prelude.{◌≡◌, ℕ, ◌≤◌, List, [], ◌++◌, IfOk, length};
 ghost use Rattle.std.specs.Io.KnownBytes.{Consumes};
 ghost use Rattle.un_io.specs.Outside.{Rose};
@@ -23,7 +23,7 @@ const PIECE: usize = 8_192;
 /// The room for bytes: a block and a body.
 const ROOM: usize = MOST_BLOCK + MOST_BODY;
 
-/// The place of the method and of the path before the first request.
+/// The span of the method and of the path before the first request.
 const NOTHING: Span = Span { start: 0, end: 0 };
 
 /// What comes next in the bytes of a link.
@@ -31,27 +31,27 @@ const NOTHING: Span = Span { start: 0, end: 0 };
 pub enum Next {
     /// A request. The inbox has its method, its path and its body.
     Request(Head),
-    /// The check that the next request failed. The link closes after its response, and the rest of the input is left.
+    /// The check that the next request failed. The link closes after its response, and the rest of the input is not read.
     Failed(Check),
     /// The input ended with no byte of a request.
     Closed,
-    /// The input ended inside a request, after so many bytes from its first one.
+    /// The input ended inside a request, after this many of its bytes.
     Cut { bytes: u64 },
     /// A read failed, and the link has counted it.
     ReadFault,
 }
 
-/// What the head of a request says of the link.
+/// What the head of a request says about the link.
 #[derive(Clone, Copy, Debug, PartialEq, Eq)]
 pub struct Head {
     /// The link closes after the response: the version is 1.0, or a `Connection` header has `close` in its list.
     pub close: bool,
 }
 
-/// The request that was given last, and the bytes of the link that have come after it.
+/// The last request that was returned, and the bytes of the link that have come after it.
 #[derive(Drop)]
 pub struct Inbox {
-    // The request that was given last, and what has come after it.
+    // The last request that was returned, and what has come after it.
     bytes: Vec<u8>,
     // What one read gives.
     piece: Vec<u8>,
@@ -84,7 +84,7 @@ impl Model for Inbox {
 }
 
 impl Inbox {
-    /// An inbox that has given no request, with the room for one.
+    /// An inbox before its first request, with the room for one.
     pub fn new(alloc: Global) -> Result<Inbox, AllocError>
         ensures { IfOk result (λ inbox. inbox ≡ record { method = []; path = []; body = []; held = [] }) }
     {
@@ -99,21 +99,21 @@ impl Inbox {
         })
     }
 
-    /// The method of the request that was given last, empty before the first.
+    /// The method of the last request, empty before the first.
     pub fn method(&self) -> &[u8]
         ensures { result.now ≡ self.now.method }
     {
         self.method.of(&self.bytes)
     }
 
-    /// The path of the request that was given last, empty before the first. It is the target up to the first `?`.
+    /// The path of the last request, empty before the first. It is the target up to the first `?`.
     pub fn path(&self) -> &[u8]
         ensures { result.now ≡ self.now.path }
     {
         self.path.of(&self.bytes)
     }
 
-    /// The body of the request that was given last, empty before the first.
+    /// The body of the last request, empty before the first.
     pub fn body(&self) -> &[u8]
         ensures { result.now ≡ self.now.body }
     {
@@ -121,8 +121,8 @@ impl Inbox {
     }
 }
 
-/// The next request of a link. It takes no memory, and may wait: for the link, and forever where a client sends CR and
-/// LF bytes without end. After any other answer than `Request` it is not called again.
+/// The next request of a link. It allocates nothing. It may wait for the link, and never returns if a client sends CR
+/// and LF bytes endlessly. After any result other than `Request` it is not called again.
 pub fn next_request<R: Wait, X: Link>(rt: &R, inbox: &mut Inbox, link: &mut X) -> Next
     ensures answers { (read : List ℕ) × (Consumes (X.left link.old) (X.left link.new) read
         × Answers (inbox.old.held ++ read) inbox.new (X.left link.new) result) }

@@ -1,4 +1,4 @@
-//! Laws of the definitions: what the bytes of a link are has one answer, and it is found request by request.
+//! Laws of the definitions: bytes have only one reading as requests, and it is found request by request.
 ghost use Rattle.std.specs.Prelude.{◌≡◌, ℕ, List, [], ◌∷◌, ◌++◌};
 ghost use Rattle.un_http.specs.Requests.{Request, IsRequest, End, EndsBy, AreRequests, AreFirst};
 
@@ -8,8 +8,8 @@ pub fn one_reading()
         → AreRequests bytes requests end → AreRequests bytes requests' end' → (requests ≡ requests') × (end ≡ end') }
 {}
 
-/// Requests are found one after another: where the bytes so far are some requests and then a rest, one more request in
-/// the rest and what comes after it is one more request of the bytes, and an end of the rest is an end of the bytes.
+/// Requests are found one after another. If the bytes so far are some requests and then a rest, one more request in the
+/// rest and the bytes after it is one more request of all the bytes, and the end of the rest is the end of all the bytes.
 pub fn one_more()
     ensures next { (bytes more rest rest' : List ℕ) (requests : List Request) (request : Request)
         → AreFirst bytes requests rest → IsRequest (rest ++ more) request rest' → AreFirst (bytes ++ more) (requests ++ request ∷ []) rest' }

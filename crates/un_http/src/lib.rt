@@ -1,17 +1,17 @@
 //! The requests in the bytes of a link, their routes, and the heads of responses: a profile of HTTP/1.1 (RFC 9112).
 //!
-//! A client sends its requests one after another, and the reads of the link cut their bytes anywhere. What is to be
+//! A client sends its requests one after another, and reads of the link may split their bytes anywhere. What is to be
 //! found is one list of requests, which depends on the bytes alone. A request is a block, which ends with the first
-//! empty line, and a body, whose length the block's headers give. `next_request` goes in this order:
+//! empty line, and a body, whose length the block's headers give. `next_request` has four steps:
 //!
 //! 1. it drops the CR and LF bytes before the request (`fill::skip_blank`);
-//! 2. it reads until the block ends, and looks at each byte once for that (`fill::find_block`);
-//! 3. it gives the block to `httparse`, and tests its headers, check after check (`head::read_head`);
+//! 2. it reads until the block ends, and examines each byte once for that (`fill::find_block`);
+//! 3. it passes the block to `httparse`, and makes the checks of its headers in order (`head::read_head`);
 //! 4. it reads until the body is whole (`fill::fill`).
 //!
-//! What was read past the body stays in the inbox for the next call. All room is taken when the inbox is made, so no
-//! later call can be refused for want of memory. The contracts of the steps speak of the bytes that the inbox held
-//! and of those that were read, one list, so where the reads cut them never matters.
+//! What was read past the body stays in the inbox for the next call. All memory is allocated when the inbox is made, so
+//! no later call can run out of it. The contracts of the steps speak of one list, the bytes that the inbox held and
+//! then those that were read, so it never matters where the reads split them.
 #![tactic(auto)]
 
 mod block;

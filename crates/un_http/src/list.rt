@@ -4,7 +4,7 @@ ghost use Rattle.std.specs.Str.{str_eq_ignore_ascii_case};
 ghost use Rattle.httparse.specs.Grammar.{trim_ows, skip_ows};
 ghost use Rattle.un_http.specs.Head.{lists_close};
 
-// The text without the white space in front.
+// The text without the white space at its start.
 fn trim_prefix(text: &[u8]) -> &[u8]
     ensures { result.now ≡ skip_ows text.now }
 {
@@ -40,7 +40,7 @@ fn is_close(item: &[u8]) -> bool
     trim(item).eq_ignore_ascii_case(b"close")
 }
 
-/// Whether `close` is an item of the list, in any case.
+/// Whether `close` is an item of the list, ignoring case.
 pub(crate) fn lists_close(text: &[u8]) -> bool
     ensures { result ≡ lists_close text.now }
 {

@@ -1,4 +1,4 @@
-//! Decimal numbers of any length: two lengths in one head are compared as numbers, however many digits they have.
+//! Decimal numbers of any length: the lengths in a head are compared as numbers, however many digits they have.
 ghost use Rattle.std.specs.Prelude.{◌≡◌, ◌≢◌, ◌≤◌, ◌<◌, ◌^◌, ◌==◌, true, length, get_or, MatchOption};
 ghost use Rattle.std.specs.List.{list_all};
 ghost use Rattle.std.specs.Char.{is_ascii_digit};
@@ -17,7 +17,7 @@ pub(crate) fn is_number(text: &[u8]) -> bool
     !text.is_empty() && are_digits(text)
 }
 
-// The digits without the zeros in front.
+// The digits without leading zeros.
 fn without_zeros(digits: &[u8]) -> &[u8]
     requires { list_all is_ascii_digit digits.now ≡ true }
     ensures digits { list_all is_ascii_digit result.now ≡ true }
@@ -40,7 +40,7 @@ pub(crate) fn same_number(one: &[u8], other: &[u8]) -> bool
     without_zeros(one) == without_zeros(other)
 }
 
-/// The number of some digits, or `None` if it is over `most`.
+/// The number that the digits stand for, or `None` if it is over `most`.
 pub(crate) fn small_number(digits: &[u8], most: u64) -> Option<u64>
     requires digits { is_number digits.now ≡ true }
     requires most { most ≤ 2 ^ 56 }

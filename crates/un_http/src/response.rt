@@ -52,10 +52,10 @@ fn put_close(out: &mut Vec<u8>, close: bool)
     }
 }
 
-/// Appends a response up to its body, which has `length` bytes. It takes no memory.
+/// Appends a response up to its body, which has `length` bytes. It allocates nothing.
 ///
-/// `allow_get` is given for the status 405 and for no other: `true` where the route takes GET, `false` where it takes
-/// POST. `close` says that the link closes after the response.
+/// `allow_get` is given for the status 405 and for no other: `true` if the route takes GET, `false` if it takes POST.
+/// `close` says that the link closes after the response.
 pub fn print_head(
     status: u16,
     length: usize,

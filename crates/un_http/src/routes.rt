@@ -1,6 +1,6 @@
 //! Finding the route of a path.
 //!
-//! The router says which kind of route a path may have; a feature's id and a subnetwork's names are then tested here.
+//! The router says which kind of route a path may have; a feature's id and a subnetwork's names are then checked here.
 ghost use Rattle.std.specs.Prelude.{◌≡◌, true, ℕ, List, MatchOption, IfOk, false, [], ◌∷◌, ◌++◌, ◌+◌, ◌<◌, ◌≤◌, ◌==◌, length, take, drop, codes};
 ghost use Rattle.std.specs.List.{list_all, position_or_len};
 ghost use Rattle.un_http.specs.Head.{number};
@@ -62,7 +62,7 @@ impl Routes {
     {
         match router(alloc) {
             Ok(router) => Ok(Routes { router }),
-            // No two of the patterns conflict, so only want of memory can refuse one.
+            // No two patterns conflict, so only running out of memory can refuse one.
             Err(_) => Err(AllocError),
         }
     }
@@ -117,7 +117,7 @@ impl Routes {
     }
 }
 
-// The id that a text is: decimal digits without a zero in front.
+// The id in a text: decimal digits without leading zeros.
 fn read_id(text: &[u8]) -> Option<u64>
     ensures { MatchOption result (is_id text.now ≡ false) (λ id. (is_id text.now ≡ true) × (id ≡ number text.now)) }
 {
@@ -136,7 +136,7 @@ fn feature(path: &[u8]) -> Option<Route>
     Some(Route::Feature { id })
 }
 
-// Whether a name may have the byte.
+// Whether a name may contain the byte.
 fn is_name_byte(byte: u8) -> bool
     ensures { result ≡ is_name_byte byte }
 {
@@ -156,7 +156,7 @@ fn is_name(text: &[u8]) -> bool
     !text.is_empty() && text.len() <= MOST_NAME && are_name_bytes(text)
 }
 
-// The place of the first slash, or the length if there is none.
+// The index of the first slash, or the length if there is none.
 fn slash_at(text: &[u8]) -> usize
     ensures value { result ≡ position_or_len (λ byte. byte == 47) text.now }
     ensures within { result ≤ length text.now }
@@ -164,7 +164,7 @@ fn slash_at(text: &[u8]) -> usize
     text.iter().take_while(|byte| **byte != b'/').count()
 }
 
-// The place of the slash, if the text is two names with a slash between them.
+// The index of the slash, if the text is two names with a slash between them.
 fn between_names(names: &[u8]) -> Option<usize>
     ensures { MatchOption result ((a b : List ℕ) → names.now ≡ a ++ 47 ∷ b → is_name a ≡ true → is_name b ≡ true → ⊥)
         (λ at. (at < length names.now) × (names.now ≡ take at names.now ++ 47 ∷ drop (at + 1) names.now)

@@ -16,13 +16,13 @@ use un_io::Link;
 /// What was found in the bytes of a link.
 #[derive(Clone, Copy, Debug, PartialEq, Eq)]
 pub(crate) enum Taken {
-    /// A request, which begins at the first byte: what its head says, and the length of its block.
+    /// A request, which begins at the first byte: the contents of its head, and the length of its block.
     Request(Passed, usize),
     /// The check that the request failed, which begins at the first byte.
     Failed(Check),
     /// The input ended with no byte of a request.
     Closed,
-    /// The input ended inside a request, after so many of its bytes.
+    /// The input ended inside a request, after this many of its bytes.
     Cut(u64),
     /// The link failed.
     ReadFault,
@@ -64,7 +64,7 @@ fn take_begun<X: Link>(
     }
 }
 
-/// Reads the next request. It then begins at the first byte; what came before it is dropped.
+/// Reads the next request, which then begins at the first byte; the bytes before it are dropped.
 pub(crate) fn take_request<R: Wait, X: Link>(
     rt: &R,
     link: &mut X,
