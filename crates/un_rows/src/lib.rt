@@ -1,5 +1,0 @@
-//! Tests of a network at a desk of sessions.
-#![tactic(auto)]
-
-#[cfg(test)]
-mod desk;
