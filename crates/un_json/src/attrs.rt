@@ -8,7 +8,7 @@ use serde_json::{Map, Value};
 use std::alloc::{AllocError, Global};
 use un_ask::{Name, NamedAttrs};
 
-/// An object whose members have the form of names and are whole numbers.
+/// An object whose member names are valid names and whose values are whole numbers.
 pub(crate) struct NamedValues;
 
 impl Form for NamedValues {
@@ -27,7 +27,7 @@ impl Form for NamedValues {
 }
 
 #[tactic(auto, using(crate::proofs::Attributes::read_on, crate::proofs::Attributes::read_none, crate::proofs::Attributes::read_all, crate::proofs::Attributes::named))]
-/// The members as names and whole numbers, which stand in the byte order of the names as the members do.
+/// The members as names and whole numbers, in the byte order of the names, which is the order of the members.
 fn read_members(
     alloc: Global,
     members: &Map<String, Value>,

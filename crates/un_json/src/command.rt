@@ -112,7 +112,7 @@ fn read_one_edit(alloc: Global, word: EditWord, object: &Value) -> Result<Comman
     Ok(Command::Edit(edit))
 }
 
-/// The command of a word that an object is.
+/// Reads an object as the command of this word.
 pub(crate) fn read_command(
     alloc: Global,
     word: CommandWord,

@@ -48,7 +48,7 @@ impl Form for Barrier {
     }
 }
 
-/// The condition that a value is. It calls itself once for each level of the condition, of which a text has at most 127.
+/// The condition that a value is. It recurses once for each level of nesting, of which a text has at most 127.
 #[cycle(condition)]
 #[tactic(auto, using(crate::proofs::Conditions::of_array, crate::proofs::Conditions::no_array, crate::proofs::Conditions::array_depth))]
 pub fn read_condition(alloc: Global, value: &Value) -> Result<Option<RawCond>, AllocError>
@@ -60,7 +60,7 @@ pub fn read_condition(alloc: Global, value: &Value) -> Result<Option<RawCond>, A
     }
 }
 
-/// The condition that is made of a list's items.
+/// The condition that the items of a list form.
 #[cycle(condition)]
 #[tactic(auto, using(crate::proofs::Conditions::no_condition, crate::proofs::Conditions::item_depth))]
 fn read_parts(alloc: Global, items: &[Value]) -> Result<Option<RawCond>, AllocError>
@@ -174,7 +174,7 @@ fn read_test(
     }
 }
 
-/// A text that has the form of a name.
+/// A text that is a valid name.
 fn read_text(alloc: Global, value: &Value) -> Result<Option<Text>, AllocError>
     ensures { IfOk result (λ text. text ≡ name_of (view value.now)) }
 {

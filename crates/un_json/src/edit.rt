@@ -1,4 +1,4 @@
-//! Edits that may stand in a batch: for each word a function that reads its members in order.
+//! The edits that a batch may have. For each word, a function reads its members in order.
 ghost use Rattle.std.specs.Prelude.{◌≡◌, [], Ok, IfOk, IfErr};
 ghost use Rattle.serde_json.specs.View.{view};
 ghost use Rattle.un_json.specs.Rows.{Blames};
@@ -209,7 +209,7 @@ fn read_uncontroller(alloc: Global, object: &Value) -> Result<Edit, ReadFault>
     Ok(Edit::Uncontroller { id, terminal })
 }
 
-/// The edit of a word that an object is.
+/// Reads an object as the edit of this word.
 pub(crate) fn read_edit(alloc: Global, word: EditWord, object: &Value) -> Result<Edit, ReadFault>
     ensures ok { IfOk result (λ edit. edit_answer word (view object.now) ≡ Ok edit) }
     ensures err { IfErr result (λ e. Blames e (edit_answer word (view object.now))) }

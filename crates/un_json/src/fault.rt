@@ -7,12 +7,12 @@ use std::alloc::AllocError;
 use un_ask::{Refusal, Reply};
 use un_schema::Place;
 
-/// Why a text is no request.
+/// Why a text is not a request.
 #[derive(Clone, Copy, Debug, PartialEq, Eq)]
 pub enum ReadFault {
-    /// It is no JSON value in UTF-8.
+    /// It is not a JSON value in UTF-8.
     NotJson,
-    /// It is a JSON value, and no request: the first place that is bad.
+    /// It is a JSON value but not a request. `place` is the first bad place.
     BadRequest { place: Place },
     /// Out of memory.
     Memory,

@@ -1,4 +1,4 @@
-//! What a result is to tell besides its features: inclusions and functions.
+//! What a result includes besides its features: inclusions and functions.
 ghost use Rattle.std.specs.Prelude.{◌≡◌, IfOk};
 ghost use Rattle.serde_json.specs.View.{view};
 ghost use Rattle.un_json.specs.Forms.{add_inclusion, included_from, nothing, count_of, named_func_of, func_named, func_of};
@@ -11,7 +11,7 @@ use serde_json::Value;
 use std::alloc::{AllocError, Global};
 use un_ask::{Include, Name, NamedFunc, NamedFuncs};
 
-/// A list of distinct words of what a result is to tell.
+/// A list of distinct words that say what a result includes.
 pub(crate) struct Inclusions;
 
 impl Form for Inclusions {
@@ -41,7 +41,7 @@ pub(crate) fn nothing() -> Include
     }
 }
 
-/// What the words tell of, unless one stands twice.
+/// What the words include, or `None` if a word is repeated.
 #[tactic(auto, using(crate::proofs::Inclusions::add_one, crate::proofs::Inclusions::add_none, crate::proofs::Inclusions::all_added))]
 fn all_included(words: &[Inclusion]) -> Option<Include>
     ensures { result ≡ included_from nothing words.now }
@@ -56,7 +56,7 @@ fn all_included(words: &[Inclusion]) -> Option<Include>
     Some(include)
 }
 
-/// One more word, unless it is there already.
+/// Adds a word, or returns `None` if it was already there.
 fn add(include: Include, word: Inclusion) -> Option<Include>
     ensures { result ≡ add_inclusion word include }
 {

@@ -11,7 +11,7 @@ use un_defs::Port;
 use un_defs::port::Ports;
 use un_geom::{Rect, Triples};
 
-/// What each of the values is, if each of them has the form.
+/// The values read by the form, if all of them have it.
 #[tactic(auto, using(crate::proofs::Items::read_on, crate::proofs::Items::read_none, crate::proofs::Items::read_all))]
 fn read_items<F: Form>(alloc: Global, values: &[Value]) -> Result<Option<Vec<F::Out>>, AllocError>
     ensures { IfOk result
@@ -38,7 +38,7 @@ pub fn read_list<F: Form>(alloc: Global, value: &Value) -> Result<Option<Vec<F::
     }
 }
 
-/// A list of values that have the form, whose length is in range.
+/// A list of values that have the form, with a length in range.
 pub(crate) fn read_list_from_to<F: Form>(
     alloc: Global,
     low: usize,

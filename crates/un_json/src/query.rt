@@ -96,7 +96,7 @@ fn read_trace(alloc: Global, object: &Value) -> Result<Query, ReadFault>
     read_trace_of(alloc, kind, object)
 }
 
-/// The members of a trace of a kind, which its member `type` gives.
+/// The members of a trace of the kind that its member `type` gives.
 fn read_trace_of(alloc: Global, kind: TraceKind, object: &Value) -> Result<Query, ReadFault>
     requires { required_member place.Type kind_of (view object.now) ≡ Ok kind }
     ensures ok { IfOk result (λ query. answers place.Ask (trace_row kind) (view object.now) ≡ Ok query) }
@@ -142,7 +142,7 @@ fn read_starts(alloc: Global, kind: TraceKind, object: &Value) -> Result<Ports, 
     required_when::<Starts>(taken, alloc, object, Place::Starts, no_ports(alloc))
 }
 
-/// The tier whose barriers hold.
+/// The tier whose barriers apply.
 fn read_tier(alloc: Global, kind: TraceKind, object: &Value) -> Result<Option<Name>, ReadFault>
     ensures ok { IfOk result
         (λ tier. required_member_when (takes_tier kind) place.Tier some_name_of None (view object.now) ≡ Ok tier) }
@@ -164,7 +164,7 @@ fn read_subnet_of(alloc: Global, kind: TraceKind, object: &Value) -> Result<Opti
     required_when::<SomeName>(taken, alloc, object, Place::Subnet, None)
 }
 
-/// What isolates.
+/// The condition that isolating features meet.
 fn read_isolators(
     alloc: Global,
     kind: TraceKind,
@@ -190,7 +190,7 @@ fn read_consistent(alloc: Global, kind: TraceKind, object: &Value) -> Result<boo
     optional_when::<Truth>(taken, alloc, object, Place::Consistent, true)
 }
 
-/// What the trace tells besides its features.
+/// What the result of the trace includes besides its features.
 fn read_include(alloc: Global, kind: TraceKind, object: &Value) -> Result<Include, ReadFault>
     ensures ok { IfOk result
         (λ include. optional_member_when (takes_include kind) place.Include include_of nothing (view object.now) ≡ Ok include) }
@@ -216,7 +216,7 @@ fn read_functions(alloc: Global, kind: TraceKind, object: &Value) -> Result<Name
     )
 }
 
-/// Whether a trace of the kind has a result, which may tell more and has functions.
+/// Whether a trace of the kind has a result, which takes inclusions and functions.
 fn has_result(kind: TraceKind) -> bool
     ensures { result ≡ takes_include kind }
 {
@@ -262,7 +262,7 @@ const MEMBERS_OF_CONTROLLERS: [Place; 8] = [
     Place::Seen,
 ];
 
-/// The members of a trace against the flow, and of one with it.
+/// The members of an upstream or a downstream trace.
 const MEMBERS_OF_STREAM: [Place; 10] = [
     Place::Ask,
     Place::Type,
@@ -322,7 +322,7 @@ fn no_functions(alloc: Global) -> NamedFuncs
     NamedFuncs::new(Vec::new(alloc))
 }
 
-/// The query of a word that an object is.
+/// Reads an object as the query of this word.
 pub(crate) fn read_query(alloc: Global, word: QueryWord, object: &Value) -> Result<Query, ReadFault>
     ensures ok { IfOk result (λ query. query_answer word (view object.now) ≡ Ok query) }
     ensures err { IfErr result (λ e. Blames e (query_answer word (view object.now))) }

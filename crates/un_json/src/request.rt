@@ -1,10 +1,10 @@
-//! Requests, and how they are read from texts of JSON.
+//! How requests are read from JSON text.
 //!
-//! A text is read as a JSON value first. The value is to be an object with one of the members `do` and `ask`, whose word says which
-//! other members it has. The table of the definitions gives them by word, each with its form: they are looked at in the table's
-//! order, and the first that is missing or has another form is the place of the refusal. So one function for each word reads its
-//! members in that order, and gives up at the first that is bad; what the table does not have is looked for behind them.
-//! The value is walked once for each member that is looked up, and what is kept of it is copied.
+//! A text is first read as a JSON value. The value must be an object with exactly one of the members `do` and `ask`, whose word
+//! determines the other members. A table in the definitions lists them for each word, each with its form; they are checked in the
+//! table's order, and the refusal names the first one that is missing or has another form. So one function for each word reads its
+//! members in that order and stops at the first bad one; members that are not in the table are looked for last.
+//! Each look-up walks the object's members once, and what is kept of the value is copied.
 ghost use Rattle.std.specs.Prelude.{◌≡◌, ◌≢◌, Ok, Err, Some, None, IfOk, IfErr};
 ghost use Rattle.serde_json.specs.View.{view};
 ghost use Rattle.un_json.specs.Rows.{Blames};
@@ -18,8 +18,8 @@ use serde_json::Value;
 use std::alloc::Global;
 use un_ask::{EditWord, Place, Request};
 
-/// Reads the request that a text is. It is `NotJson` exactly where the bytes are no JSON value in UTF-8, and `BadRequest` with the
-/// first place that is bad. Want of memory may stand in place of any answer.
+/// Reads a request. The fault is `NotJson` exactly if the bytes are not a JSON value in UTF-8, and otherwise `BadRequest` with the
+/// first bad place. Any call may return `Memory` instead.
 pub fn read_request(alloc: Global, text: &[u8]) -> Result<Request, ReadFault>
     ensures request { IfOk result (λ request. ask text.now ≡ Ok request) }
     ensures fault { IfErr result (λ e. e ≢ ReadFault.Memory → ask text.now ≡ Err e) }
@@ -28,10 +28,11 @@ pub fn read_request(alloc: Global, text: &[u8]) -> Result<Request, ReadFault>
     read_value(alloc, &value)
 }
 
-/// The JSON value that the bytes are. It is `NotJson` exactly where they are none in UTF-8.
+/// Parses a JSON value. The fault is `NotJson` exactly if the bytes are not one in UTF-8.
 pub fn read_json(alloc: Global, text: &[u8]) -> Result<Value, ReadFault>
     ensures ok { IfOk result (λ value. json_of text.now ≡ Some (view value)) }
-    ensures err { IfErr result (λ e. e ≢ ReadFault.Memory → (json_of text.now ≡ None) × (e ≡ ReadFault.NotJson)) }
+    ensures err { IfErr result (λ e. e ≢ ReadFault.Memory
+        → (json_of text.now ≡ None) × (e ≡ ReadFault.NotJson)) }
 {
     match Value::from_slice(alloc, text) {
         Ok(value) => Ok(value),
@@ -40,7 +41,7 @@ pub fn read_json(alloc: Global, text: &[u8]) -> Result<Value, ReadFault>
     }
 }
 
-// The request that a value is.
+// The request in a JSON value.
 fn read_value(alloc: Global, value: &Value) -> Result<Request, ReadFault>
     ensures ok { IfOk result (λ request. request_of (view value.now) ≡ Ok request) }
     ensures err { IfErr result (λ e. Blames e (request_of (view value.now))) }

@@ -13,14 +13,14 @@ use un_defs::{Flow, Note};
 /// The greatest number of a feature, an association or a version.
 const GREATEST_ID: u64 = 9_007_199_254_740_991;
 
-/// A whole number from one to another.
+/// A whole number from `low` to `high`.
 pub fn count_from_to(low: u64, high: u64, value: &Value) -> Option<u64>
     ensures { result ≡ count_from_to low high (view value.now) }
 {
     value.as_u64().filter(|n| low <= *n && *n <= high)
 }
 
-/// A whole number from one to another, of which the last is one of 8 bits.
+/// A whole number from `low` to `high`, which fits in 8 bits.
 pub fn small_from_to(low: u8, high: u8, value: &Value) -> Option<u8>
     ensures { result ≡ count_from_to low high (view value.now) }
 {
@@ -118,7 +118,7 @@ impl Form for Named {
     }
 }
 
-/// A name, where there may be none.
+/// A name, read as `Some`.
 pub(crate) struct SomeName;
 
 impl Form for SomeName {
@@ -157,7 +157,7 @@ impl Form for Noted {
     }
 }
 
-/// The way of flow along a line.
+/// The direction of flow along a line.
 pub(crate) struct Direction;
 
 impl Form for Direction {
@@ -201,7 +201,7 @@ impl Form for Kinds {
     }
 }
 
-/// A word of what a result is to tell.
+/// A word that says what a result includes.
 pub(crate) struct Included;
 
 impl Form for Included {

@@ -27,7 +27,7 @@ pub(crate) enum QueryWord {
     Trace,
 }
 
-/// A word of the list of what a result is to tell.
+/// A word that says what a result includes.
 #[derive(Clone, Copy, Debug, PartialEq, Eq)]
 pub(crate) enum Inclusion {
     Barriers,

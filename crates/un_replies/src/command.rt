@@ -1,4 +1,4 @@
-//! The replies of commands.
+//! The replies to commands.
 ghost use Rattle.std.specs.Prelude.{◌≡◌, ℕ, ◌+◌, ◌*◌, ◌<◌, ◌≤◌, List, [], ◌∷◌, ◌++◌, codes, length, IfOk, OnOk, OnErr, vec_len, vec_capacity};
 ghost use Rattle.json.specs.Print.{escape};
 ghost use Rattle.un_ask.specs.declared.reply.Reply.TheVariants.{Edited, Batch, Ruled, Validated, Updated};
@@ -11,7 +11,7 @@ use crate::put::put;
 use crate::refusal::put_refusal;
 use un_ask::{EditWord, Reply, StoredSubnet};
 
-/// How many bytes are kept spare for the reply of a command.
+/// How many bytes are reserved for the reply to a command.
 pub const COMMAND_REPLY_ROOM: usize = 8_192;
 
 #[tactic(auto, using(crate::proofs::Plain::edit_text_plain, crate::proofs::Plain::edit_text_short), unfolding(serde_json::proofs::OnLiterals::serde_json_on_literals))]
@@ -70,7 +70,7 @@ fn put_validated(out: &mut Vec<u8>, cleared: u64, errors: u64, version: u64)
     put(out, b"}");
 }
 
-// How many members a stored subnetwork has; one that was removed has none.
+// How many members a stored subnetwork has; a removed one has none.
 fn stored_members(row: &Option<StoredSubnet>) -> u64
     ensures { result ≡ stored_members row.now }
 {
@@ -106,7 +106,7 @@ fn put_updated(out: &mut Vec<u8>, row: &Option<StoredSubnet>, version: u64)
     put(out, b"}");
 }
 
-/// Puts the reply of a command, for which there is room.
+/// Appends the reply to a command, for which there is room.
 #[tactic(auto, using(crate::proofs::Commands::other_reply))]
 pub(crate) fn put_command(out: &mut Vec<u8>, reply: &Reply)
     requires command { IsOfCommand reply.now }
@@ -148,9 +148,9 @@ pub(crate) fn put_command(out: &mut Vec<u8>, reply: &Reply)
     }
 }
 
-/// Adds the text of a command's reply, accepted or refused. It takes no memory.
+/// Appends the text of a command's reply, accepted or refused. It allocates nothing.
 ///
-/// The text is so much shorter than the room that a line's end has room behind it, too.
+/// The text is shorter than the room, so that there is room for a line end after it.
 #[tactic(auto, using(crate::proofs::Commands::few_fit))]
 pub fn print_command_reply(reply: &Reply, out: &mut Vec<u8>)
     requires command { IsOfCommand reply.now }

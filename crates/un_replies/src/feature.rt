@@ -1,4 +1,4 @@
-//! A feature as a query tells it.
+//! A feature in the reply to a query.
 ghost use Rattle.std.specs.Prelude.{◌≡◌, [], ◌∷◌, ◌++◌, OnOk, map};
 ghost use Rattle.json.specs.Token.{end_object};
 ghost use Rattle.json.specs.Tree.{json_tokens, members_tokens};
@@ -29,7 +29,7 @@ fn show_pairs(pairs: &[(Name, i64)], out: &mut Writer) -> Result<(), AllocError>
     Ok(())
 }
 
-// Writes the attributes, of which the names rise.
+// Writes the attributes, whose names are sorted and distinct.
 
 fn show_attributes(pairs: &[(Name, i64)], out: &mut Writer) -> Result<(), AllocError>
     requires { IsNamedAttrs pairs.now }
@@ -52,7 +52,7 @@ fn flow_text(flow: Flow) -> &'static str
     }
 }
 
-// The name of a path, or the empty text where there is none.
+// The name of a path, or the empty text if there is none.
 fn path_text(path: &Option<Name>) -> &str
     ensures { result.now ≡ path_text path.now }
 {
@@ -62,7 +62,7 @@ fn path_text(path: &Option<Name>) -> &str
     }
 }
 
-/// Writes a feature as it stands.
+/// Writes a stored feature.
 pub(crate) fn show_feature(
     feature: &FeatureReply,
     version: u64,

@@ -1,6 +1,6 @@
 //! The JSON of replies.
 //!
-//! The reply of a command is short, and is printed without memory, so that a command that was made can always be told of.
+//! The reply to a command is short, and printing it allocates nothing, so that an applied command always gets its reply.
 #![tactic(auto)]
 
 mod command;

@@ -1,4 +1,4 @@
-//! Members of objects, with the comma behind them or before them, where there is room for them.
+//! Members of objects, appended with a comma after or before them, where there is room.
 ghost use Rattle.std.specs.Prelude.{◌≡◌, ◌+◌, ◌*◌, ◌≤◌, [], ◌∷◌, ◌++◌, length, vec_len, vec_capacity};
 ghost use Rattle.json.specs.Print.{escape, quoted};
 ghost use Rattle.serde_json.specs.Data.{string};
@@ -9,7 +9,7 @@ ghost use Rattle.un_replies.specs.Pieces.{leading, following, opening};
 use crate::put::{put, put_counts, put_name, put_number, put_string};
 use un_schema::Name;
 
-/// Puts a number and the comma behind it.
+/// Puts a number and a comma after it.
 #[tactic(auto, using(crate::proofs::Steps::lead_one))]
 pub(crate) fn lead_count(out: &mut Vec<u8>, name: &str, number: u64)
     requires plain { escape name.now ≡ name.now }
@@ -24,7 +24,7 @@ pub(crate) fn lead_count(out: &mut Vec<u8>, name: &str, number: u64)
     put(out, b",");
 }
 
-/// Puts a name and the comma behind it.
+/// Puts a name and a comma after it.
 #[tactic(auto, using(crate::proofs::Steps::lead_one))]
 pub(crate) fn lead_name(out: &mut Vec<u8>, name: &str, value: &Name)
     requires plain { escape name.now ≡ name.now }
@@ -71,7 +71,7 @@ pub(crate) fn follow_name(out: &mut Vec<u8>, name: &str, value: &Name)
     put_name(out, value);
 }
 
-/// Puts a comma and a string of which no byte is to be escaped.
+/// Puts a comma and a string without bytes that need escaping.
 #[tactic(auto, using(crate::proofs::Steps::follow_one))]
 pub(crate) fn follow_string(out: &mut Vec<u8>, name: &str, value: &str)
     requires plain { escape name.now ≡ name.now }
@@ -102,7 +102,7 @@ pub(crate) fn follow_counts(out: &mut Vec<u8>, name: &str, numbers: &[u64])
     put_counts(out, numbers);
 }
 
-/// Puts the beginning of an object of which the first member is a number.
+/// Puts the beginning of an object whose first member is a number.
 #[tactic(auto, using(crate::proofs::Steps::open_one))]
 pub(crate) fn open_count(out: &mut Vec<u8>, name: &str, number: u64)
     requires plain { escape name.now ≡ name.now }
@@ -117,7 +117,7 @@ pub(crate) fn open_count(out: &mut Vec<u8>, name: &str, number: u64)
     put_number(out, number);
 }
 
-/// Puts the beginning of an object of which the first member is a list of numbers.
+/// Puts the beginning of an object whose first member is a list of numbers.
 #[tactic(auto, using(crate::proofs::Steps::open_one))]
 pub(crate) fn open_counts(out: &mut Vec<u8>, name: &str, numbers: &[u64])
     requires plain { escape name.now ≡ name.now }

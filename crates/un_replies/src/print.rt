@@ -11,7 +11,7 @@ use json::Writer;
 use std::alloc::{AllocError, Global};
 use un_ask::Reply;
 
-// Whether the reply is one of a command.
+// Whether the reply is to a command.
 #[tactic(auto, using(crate::proofs::Commands::other_reply))]
 fn is_of_command(reply: &Reply) -> bool
     ensures { IsTrue result ↔ IsOfCommand reply.now }
@@ -27,7 +27,7 @@ fn is_of_command(reply: &Reply) -> bool
     )
 }
 
-// Room for a command's reply and a line's end.
+// How many bytes a command's reply and a line end need at most.
 #[tactic(auto, using(crate::proofs::Commands::room_of_other))]
 fn room_of(reply: &Reply) -> Result<usize, AllocError>
     ensures { IfOk result (λ room. room ≡ command_room reply.now + 1) }
@@ -41,7 +41,7 @@ fn room_of(reply: &Reply) -> Result<usize, AllocError>
     }
 }
 
-// Adds the text of a command's reply.
+// Appends the text of a command's reply.
 fn add_command(reply: &Reply, out: &mut Vec<u8>) -> Result<(), AllocError>
     requires command { IsOfCommand reply.now }
     requires named { HasRefusalName reply.now }
@@ -67,7 +67,7 @@ fn query_text(alloc: Global, reply: &Reply) -> Result<Vec<u8>, AllocError>
     Ok(writer.into_inner())
 }
 
-// Adds the text of a query's reply.
+// Appends the text of a query's reply.
 fn add_query(alloc: Global, reply: &Reply, out: &mut Vec<u8>) -> Result<(), AllocError>
     requires { ¬ IsOfCommand reply.now }
     ensures ok { OnOk result (out.new.items ≡ out.old.items ++ print reply.now) }
@@ -81,7 +81,7 @@ fn add_query(alloc: Global, reply: &Reply, out: &mut Vec<u8>) -> Result<(), Allo
     Ok(())
 }
 
-/// Adds the text of a reply, and has room for a line's end behind it. Want of memory changes nothing.
+/// Appends the text of a reply, and leaves room for a line end after it. Running out of memory changes nothing.
 pub fn print_reply(alloc: Global, reply: &Reply, out: &mut Vec<u8>) -> Result<(), AllocError>
     ensures ok { OnOk result (out.new.items ≡ out.old.items ++ print reply.now) }
     ensures room { OnOk result (vec_len out.new < vec_capacity out.new) }

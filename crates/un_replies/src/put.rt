@@ -1,4 +1,4 @@
-//! Texts and numbers that are put behind what is printed already, where there is room for them.
+//! Texts and numbers, appended to what is already printed, where there is room.
 ghost use Rattle.std.specs.Prelude.{◌≡◌, ℕ, ◌+◌, ◌*◌, ◌≤◌, List, [], ◌∷◌, ◌++◌, codes, decimal, length, nat_lt, false, vec_len, vec_capacity};
 ghost use Rattle.serde_json.specs.Written.{compact_text, comma_if, items_text};
 ghost use Rattle.json.specs.Print.{escape, quoted};
@@ -29,7 +29,7 @@ pub(crate) fn put_number(out: &mut Vec<u8>, number: u64)
     put(out, buffer.format(number).as_bytes());
 }
 
-/// Puts a string of which no byte is to be escaped.
+/// Puts a string without bytes that need escaping.
 #[tactic(auto, using(crate::proofs::Plain::quoted_plain, crate::proofs::Steps::put_quoted))]
 pub(crate) fn put_string(out: &mut Vec<u8>, text: &str)
     requires plain { escape text.now ≡ text.now }
@@ -55,7 +55,7 @@ pub(crate) fn put_name(out: &mut Vec<u8>, name: &Name)
     put_string(out, name.text());
 }
 
-// Puts the comma that stands before all elements of a list but the first.
+// Puts the comma before each element of a list except the first.
 fn put_comma(out: &mut Vec<u8>, place: usize)
     requires { vec_len out.old + 1 ≤ vec_capacity out.old }
     ensures items { out.new.items ≡ out.old.items ++ comma_if (nat_lt 0 place) }

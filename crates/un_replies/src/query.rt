@@ -1,4 +1,4 @@
-//! The replies of queries.
+//! The replies to queries.
 ghost use Rattle.std.specs.Prelude.{◌≡◌, [], ◌∷◌, ◌++◌, codes, decimal, OnOk};
 ghost use Rattle.json.specs.Token.{begin_object, end_object, key, string, number};
 ghost use Rattle.json.specs.Tree.{json_tokens};
@@ -119,7 +119,7 @@ fn show_isolation(
     out.end_object()
 }
 
-// The beginning of a stored subnetwork: what it has, by ids.
+// The first members of a stored subnetwork: its controllers and members, by id.
 fn show_found(controllers: &Ports, members: &Ids, out: &mut Writer) -> Result<(), AllocError>
     ensures ok { OnOk result (out.new.tokens ≡ out.old.tokens
         ++ begin_object ∷ key (codes "controllers") ∷ (json_tokens (outline (list port controllers.now))
@@ -131,7 +131,7 @@ fn show_found(controllers: &Ports, members: &Ids, out: &mut Writer) -> Result<()
     list_member("members", members.as_slice(), out)
 }
 
-// The end of a stored subnetwork: its status, its names and its versions.
+// The last members of a stored subnetwork: its status, its names and its versions.
 fn show_stored(
     status: Status,
     subnet: &Name,
@@ -155,11 +155,12 @@ fn show_stored(
     out.end_object()
 }
 
-/// Writes the reply of a query.
+/// Writes the reply to a query.
 #[tactic(auto, using(crate::proofs::Commands::other_query))]
 pub(crate) fn show_query(reply: &Reply, out: &mut Writer) -> Result<(), AllocError>
     requires { ¬ IsOfCommand reply.now }
-    ensures ok { OnOk result (out.new.tokens ≡ out.old.tokens ++ json_tokens (outline (reply_value reply.now))) }
+    ensures ok { OnOk result (out.new.tokens
+        ≡ out.old.tokens ++ json_tokens (outline (reply_value reply.now))) }
     ensures before { out.new.before ≡ out.old.before }
 {
     match reply {

@@ -1,7 +1,7 @@
 //! Refusals: their numbers and names, and what each carries.
 //!
-//! The members of a refusal stand in byte order of their names. So what it carries stands in four places: before `edit`,
-//! between `error` and `name`, between `name` and `version`, and behind `version`.
+//! The members of a refusal are in the byte order of their names. So the values that it carries are in four places: before
+//! `edit`, between `error` and `name`, between `name` and `version`, and after `version`.
 ghost use Rattle.std.specs.Prelude.{◌≡◌, ◌+◌, ◌≤◌, [], ◌∷◌, ◌++◌, codes, vec_len, vec_capacity};
 ghost use Rattle.serde_json.specs.Data.{string};
 ghost use Rattle.un_schema.specs.Places.{place_text};
@@ -53,7 +53,7 @@ fn number_of(refusal: &Refusal) -> u64
         Refusal::NotIsolable { .. } => 44,
         Refusal::BadRuleTerminal { .. } => 45,
         Refusal::RuleExists { .. } => 46,
-        // Want of memory is told by itself.
+        // Running out of memory has a reply of its own.
         Refusal::Memory => 0,
     }
 }
@@ -200,7 +200,7 @@ fn put_late(out: &mut Vec<u8>, refusal: &Refusal)
     }
 }
 
-// Puts what is carried behind `version`.
+// Puts what is carried after `version`.
 #[tactic(auto, using(crate::proofs::Groups::last_none, crate::proofs::Plain::limit_text_plain, crate::proofs::Plain::limit_text_short), unfolding(serde_json::proofs::OnLiterals::serde_json_on_literals))]
 fn put_last(out: &mut Vec<u8>, refusal: &Refusal)
     requires { vec_len out.old + 32 ≤ vec_capacity out.old }
@@ -227,14 +227,14 @@ fn put_edit(out: &mut Vec<u8>, edit: Option<u64>)
     }
 }
 
-/// Whether the version is told with the refusal that has this number.
+/// Whether the refusal with this number carries the version.
 fn has_version(number: u64) -> bool
     ensures { result ≡ has_version number }
 {
     !matches!(number, 1 | 2 | 3 | 6 | 31)
 }
 
-// Puts the version, where it is told.
+// Puts the version, if the refusal carries it.
 #[tactic(auto, unfolding(serde_json::proofs::OnLiterals::serde_json_on_literals))]
 fn put_version(out: &mut Vec<u8>, number: u64, version: u64)
     requires { vec_len out.old + 31 ≤ vec_capacity out.old }
@@ -270,7 +270,7 @@ fn put_numbered(out: &mut Vec<u8>, refusal: &Refusal, edit: Option<u64>, version
     put(out, b"}");
 }
 
-/// Puts a refusal, with its place in a batch and the version where they are told.
+/// Puts a refusal, with its place in a batch and the version if it carries them.
 #[tactic(auto, using(crate::proofs::RefusalTexts::fields_other), unfolding(serde_json::proofs::OnLiterals::serde_json_on_literals))]
 pub(crate) fn put_refusal(out: &mut Vec<u8>, refusal: &Refusal, edit: Option<u64>, version: u64)
     requires named { HasName refusal.now }

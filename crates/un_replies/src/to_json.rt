@@ -13,7 +13,7 @@ use un_ask::{Part, Segment};
 use un_defs::{Controller, ErrorKind, Port, TopoError};
 use un_geom::{Point, Rect};
 
-/// What a reply can show.
+/// A value that a reply can show.
 pub(crate) trait ToJson {
     ghost use Rattle.serde_json.specs.Data.{Data};
     ghost use Rattle.serde_json.specs.Written.{outline};
@@ -21,7 +21,7 @@ pub(crate) trait ToJson {
 
     ghost json_value: { Self → Data };
 
-    /// Writes the value. Want of memory may leave a part of it out.
+    /// Writes the value. If memory runs out, part of it may be missing.
     fn show(&self, out: &mut Writer) -> Result<(), AllocError>
         ensures ok { OnOk result (out.new.tokens ≡ out.old.tokens ++ json_tokens (outline (json_value self.now))) }
         ensures before { out.new.before ≡ out.old.before };
@@ -244,7 +244,8 @@ pub(crate) fn list_member<T: ToJson>(
 
 /// Writes a member that is a number.
 pub(crate) fn count_member(name: &str, number: u64, out: &mut Writer) -> Result<(), AllocError>
-    ensures ok { OnOk result (out.new.tokens ≡ out.old.tokens ++ key name.now ∷ json_tokens (outline (count number))) }
+    ensures ok { OnOk result (out.new.tokens
+        ≡ out.old.tokens ++ key name.now ∷ json_tokens (outline (count number))) }
     ensures before { out.new.before ≡ out.old.before }
 {
     out.key(name)?;

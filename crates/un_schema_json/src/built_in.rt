@@ -1,4 +1,4 @@
-//! The schema that is built in.
+//! The built-in schema.
 ghost use Rattle.std.specs.Prelude.{◌≡◌, IfOk, IfErr, Ok, Err, Some, codes, [], ◌∷◌};
 ghost use Rattle.serde_json.specs.View.{view};
 ghost use Rattle.un_schema.specs.Raw.{catalog_from};
@@ -104,7 +104,7 @@ fn no_tiers(alloc: Global, schema: &Schema) -> Result<Tiers, SchemaFault>
     }
 }
 
-/// The schema that is built in, which has no tiers. No member may stand beside its number.
+/// The built-in schema, which has no tiers. Its line has no member besides the number.
 pub(crate) fn read_built_in(alloc: Global, object: &Value) -> Result<(Schema, Tiers), SchemaFault>
     ensures ok { IfOk result (λ both. built_in_by (view object.now) ≡ Ok both) }
     ensures bad { IfErr result

@@ -10,7 +10,7 @@ use un_json::form::Form;
 use un_json::scalar::count_from_to;
 use un_schema::{Class, Policy, RawKind};
 
-/// What of a kind takes no memory.
+/// The parts of a kind that need no allocation.
 #[derive(Clone, Copy, Debug, PartialEq, Eq)]
 pub(crate) struct Marks {
     pub(crate) class: Class,

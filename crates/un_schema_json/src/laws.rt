@@ -1,7 +1,7 @@
-//! What holds of each line that is a schema, as what a function ensures that does nothing.
+//! What holds for each schema that a line gives, as the contract of a function that does nothing.
 ghost use Rattle.un_schema_json.specs.Sound.{SchemaLaw};
 
-/// The schema that a line is, is a catalog as each is.
+/// The schema of a line is a valid catalog.
 pub fn schemas_are_catalogs()
     ensures { SchemaLaw }
 {}

@@ -1,9 +1,9 @@
 //! The line of a schema.
 //!
-//! A line is read as a JSON value first, which is to be an object. Its member `schema` says whether the schema is the one that is
-//! built in or given by the other members, and in which format. Those members are looked at in the order of the table of the
-//! definitions: first the form of each, and then, in the same order, what it says. So the place of the first bad member is the one
-//! that a reader finds who goes through the table from above. Lists that are too long are refused before any part of them is read.
+//! A line is first read as a JSON value, which must be an object. Its member `schema` says whether the schema is the built-in one
+//! or is given by the other members, and in which format. Those members are checked in the order of a table in the definitions:
+//! first the form of each, and then, in the same order, its content. So the refusal names the first bad member in the order of the
+//! table. Lists that are too long are refused before any part of them is read.
 ghost use Rattle.std.specs.Prelude.{◌≡◌, IfOk, IfErr, Ok, Err, Some, None};
 ghost use Rattle.serde_json.specs.View.{view};
 ghost use Rattle.un_json.specs.Requests.{json_of};
@@ -26,11 +26,11 @@ use un_tiers::Tiers;
 /// The most bytes that a schema's line may have.
 const LONGEST: usize = 1_048_576;
 
-/// The schema and the tiers that a line is, without its line end.
+/// The schema and the tiers of a line, which is given without its line end.
 ///
-/// `BadSchema` names the first place that is bad: `line` where the line is too long, the empty place where it is no JSON object,
-/// `schema` where that member is missing or its number is none of 0, 1 and 2, then the members in the order attributes, categories,
-/// configurations, kinds, rules, tiers, and `extra` where the line has a member besides.
+/// `BadSchema` names the first bad place: `line` if the line is too long, the empty place if it is not a JSON object, `schema` if that
+/// member is missing or its number is not 0, 1 or 2, then the members in the order attributes, categories, configurations, kinds,
+/// rules, tiers, and `extra` if the line has any other member.
 pub fn read_schema(alloc: Global, line: &[u8]) -> Result<(Schema, Tiers), SchemaFault>
     ensures ok { IfOk result (λ both. schema_of line.now ≡ Ok both) }
     ensures bad { IfErr result (λ fault. OnBadSchema fault (λ place. schema_of line.now ≡ Err place)) }

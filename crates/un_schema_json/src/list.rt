@@ -37,7 +37,7 @@ impl Form for TextForm {
     }
 }
 
-/// A list of at most so many values that have the form. Of a longer list none is read.
+/// A list of at most `most` values that have the form. No value of a longer list is read.
 #[tactic(auto, using(crate::proofs::Lengths::too_long, crate::proofs::Lengths::short))]
 pub(crate) fn read_up_to<F: Form>(
     alloc: Global,
@@ -58,7 +58,7 @@ pub(crate) fn read_up_to<F: Form>(
     }
 }
 
-/// At most so many texts.
+/// At most this many texts.
 pub(crate) fn read_texts(
     alloc: Global,
     most: usize,

@@ -6,16 +6,16 @@ ghost use Rattle.un_schema_json.specs.Table.{source_of};
 use serde_json::Value;
 use un_schema::Format;
 
-/// Where a schema stands.
+/// Where a schema comes from.
 #[derive(Clone, Copy, Debug, PartialEq, Eq)]
 pub(crate) enum Source {
-    /// In the program.
+    /// The program.
     BuiltIn,
-    /// In the members of the line.
+    /// The members of the line.
     Given(Format),
 }
 
-/// What the number says.
+/// The source that the number stands for.
 pub(crate) fn source_of(value: &Value) -> Option<Source>
     ensures { result ≡ source_of (view value.now) }
 {

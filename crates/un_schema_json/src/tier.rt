@@ -98,7 +98,7 @@ fn read_list(alloc: Global, value: &Value) -> Result<Option<Vec<RawTier>>, Alloc
     read_items(alloc, values)
 }
 
-/// The tiers of an object, if it has some in their form.
+/// The tiers of an object, or `None` if it has none in the right form.
 fn tiers_at(alloc: Global, object: &Value) -> Result<Option<Vec<RawTier>>, AllocError>
     ensures { IfOk result
         (λ tiers. option_map (λ v. map written_tier v.items) tiers ≡ tiers_of (view object.now)) }
