@@ -114,7 +114,8 @@ impl Assocs {
         tier: u8,
         subnet: &str,
     ) -> Result<Vec<Port>, AllocError>
-        ensures { IfOk result (λ ports. ports.items ≡ map (λ c. c.port) (controllers_of (only_links self.now) tier subnet.now)) }
+        ensures { IfOk result (λ ports. ports.items
+            ≡ map (λ c. c.port) (controllers_of (only_links self.now) tier subnet.now)) }
     {
         self.controllers.of_subnet(alloc, tier, subnet)
     }
@@ -160,8 +161,10 @@ impl Assocs {
     pub(crate) fn with_assoc(&self, alloc: Global, assoc: Assoc) -> Result<Assocs, AllocError>
         requires next { All (λ a. a.id < assoc.id) self.now.associations }
         requires apart { assoc.from.feature ≢ assoc.to.feature }
-        requires alone { IsTrue (is_containment assoc.sort) → container_of self.now.associations assoc.to.feature ≡ None }
-        ensures { IfOk result (λ after. after ≡ record self.now { associations = self.now.associations ++ assoc ∷ [] }) }
+        requires alone { IsTrue (is_containment assoc.sort)
+            → container_of self.now.associations assoc.to.feature ≡ None }
+        ensures { IfOk result (λ after. after
+            ≡ record self.now { associations = self.now.associations ++ assoc ∷ [] }) }
     {
         Ok(Assocs {
             by_id: self.by_id.with(alloc, assoc)?,
@@ -174,7 +177,11 @@ impl Assocs {
     // All but one association.
     pub(crate) fn without_assoc(&self, alloc: Global, gone: Assoc) -> Result<Assocs, AllocError>
         requires { find (λ a. a.id == gone.id) self.now.associations ≡ Some gone }
-        ensures { IfOk result (λ after. after ≡ record self.now { associations = filter (λ a. not (a.id == gone.id)) self.now.associations }) }
+        ensures { IfOk result (λ after. after
+            ≡ record self.now {
+              associations = filter
+                  (λ a. not (a.id == gone.id)) self.now.associations;
+            }) }
     {
         // For the proof alone.
         let _len = self.by_id.len();
@@ -193,7 +200,8 @@ impl Assocs {
         controller: Controller,
     ) -> Result<Assocs, AllocError>
         requires { find (λ c. same_port c.port controller.port) self.now.controllers ≡ None }
-        ensures { IfOk result (λ after. after ≡ record self.now { controllers = insert_key controller_cmp self.now.controllers controller }) }
+        ensures { IfOk result (λ after. after
+            ≡ record self.now { controllers = insert_key controller_cmp self.now.controllers controller }) }
     {
         Ok(Assocs {
             by_id: self.by_id.share()?,
@@ -205,7 +213,11 @@ impl Assocs {
 
     // All but the controller on a port.
     pub(crate) fn without_controller(&self, alloc: Global, port: Port) -> Result<Assocs, AllocError>
-        ensures { IfOk result (λ after. after ≡ record self.now { controllers = filter (λ c. not (same_port c.port port)) self.now.controllers }) }
+        ensures { IfOk result (λ after. after
+            ≡ record self.now {
+              controllers = filter
+                  (λ c. not (same_port c.port port)) self.now.controllers;
+            }) }
     {
         Ok(Assocs {
             by_id: self.by_id.share()?,

@@ -91,7 +91,8 @@ const MOST_CONTROLLERS: u64 = 4096;
 pub(crate) fn check_chain(links: &Assocs, container: u64, content: u64) -> Result<(), Refusal>
     ensures apart { OnOk result (container ≢ content) }
     ensures good { OnOk result (in_itself links.now.associations container content ≡ None) }
-    ensures bad { IfErr result (λ refusal. in_itself links.now.associations container content ≡ Some refusal) }
+    ensures bad { IfErr result (λ refusal. in_itself links.now.associations container content
+        ≡ Some refusal) }
 {
     if container == content || links.is_above(container, content) {
         return Err(Refusal::ContainsItself);

@@ -66,7 +66,9 @@ impl Containers {
 
     // Whether a row is one of the first containers above another, of which so many are looked at.
     pub(crate) fn is_above(&self, most: u64, id: u64, sought: u64) -> bool
-        ensures { result ≡ list_any (λ c. c == sought) (chain_of most (λ c. lookup (is_at (nat_cmp c)) self.now.containers) id) }
+        ensures { result
+            ≡ list_any (λ c. c == sought)
+            (chain_of most (λ c. lookup (is_at (nat_cmp c)) self.now.containers) id) }
     {
         let mut left = most;
         let mut at = id;
@@ -85,7 +87,8 @@ impl Containers {
 
     // The containers with one association more.
     pub(crate) fn with(&self, alloc: Global, assoc: &Assoc) -> Result<Containers, AllocError>
-        ensures { IfOk result (λ new. (associations : List Assoc) → AreContained self.now.containers self.now.counts associations
+        ensures { IfOk result (λ new. (associations : List Assoc)
+            → AreContained self.now.containers self.now.counts associations
             → (IsTrue (is_containment assoc.now.sort) → container_of associations assoc.now.to.feature ≡ None)
             → AreContained new.containers new.counts (associations ++ assoc.now ∷ [])) }
     {
@@ -102,7 +105,8 @@ impl Containers {
 
     // The containers without an association.
     pub(crate) fn without(&self, alloc: Global, assoc: &Assoc) -> Result<Containers, AllocError>
-        ensures { IfOk result (λ new. (associations : List Assoc) → AreContained self.now.containers self.now.counts associations → IsRising associations
+        ensures { IfOk result (λ new. (associations : List Assoc)
+            → AreContained self.now.containers self.now.counts associations → IsRising associations
             → find (λ a. a.id == assoc.now.id) associations ≡ Some assoc.now
             → AreContained new.containers new.counts (filter (λ a. not (a.id == assoc.now.id)) associations)) }
     {
@@ -138,7 +142,8 @@ fn counts_with(
     alloc: Global,
     container: u64,
 ) -> Result<Paged<u64, u64>, AllocError>
-    ensures { IfOk result (λ new. (id : ℕ) → count_in new id ≡ count_in counts.now id + (if id == container then 1 else 0)) }
+    ensures { IfOk result (λ new. (id : ℕ)
+        → count_in new id ≡ count_in counts.now id + (if id == container then 1 else 0)) }
 {
     let more = count_more(counts, container)?;
     let new = counts.with(alloc, container, more)?;
@@ -151,7 +156,8 @@ fn counts_without(
     alloc: Global,
     container: u64,
 ) -> Result<Paged<u64, u64>, AllocError>
-    ensures { IfOk result (λ new. (id : ℕ) → count_in new id ≡ count_in counts.now id - (if id == container then 1 else 0)) }
+    ensures { IfOk result (λ new. (id : ℕ)
+        → count_in new id ≡ count_in counts.now id - (if id == container then 1 else 0)) }
 {
     // For the proof alone.
     let _len = counts.len();

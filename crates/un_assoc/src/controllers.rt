@@ -45,7 +45,8 @@ fn ports_of_subnet(
     tier: u8,
     subnet: &str,
 ) -> Result<Vec<Port>, AllocError>
-    ensures { IfOk result (λ ports. ports.items ≡ map (λ c. c.port) (filter (is_of_subnet tier subnet.now) (values_of pairs.now))) }
+    ensures { IfOk result (λ ports. ports.items
+        ≡ map (λ c. c.port) (filter (is_of_subnet tier subnet.now) (values_of pairs.now))) }
 {
     let mut ports = Vec::new(alloc);
     for (_, controller) in pairs.range(Bound::Unbounded) {
@@ -108,7 +109,8 @@ impl Controllers {
         tier: u8,
         subnet: &str,
     ) -> Result<Vec<Port>, AllocError>
-        ensures { IfOk result (λ ports. ports.items ≡ map (λ c. c.port) (filter (is_of_subnet tier subnet.now) self.now)) }
+        ensures { IfOk result (λ ports. ports.items
+            ≡ map (λ c. c.port) (filter (is_of_subnet tier subnet.now) self.now)) }
     {
         ports_of_subnet(alloc, &self.pairs, tier, subnet)
     }

@@ -103,7 +103,8 @@ impl Ends {
 
     // The ends without those of an association.
     pub(crate) fn without(&self, alloc: Global, assoc: &Assoc) -> Result<Ends, AllocError>
-        ensures { IfOk result (λ ends. (associations : List Assoc) → AreEnds self.now.pairs associations → IsRising associations
+        ensures { IfOk result (λ ends. (associations : List Assoc)
+            → AreEnds self.now.pairs associations → IsRising associations
             → find (λ a. a.id == assoc.now.id) associations ≡ Some assoc.now
             → AreEnds ends.pairs (filter (λ a. not (a.id == assoc.now.id)) associations)) }
     {

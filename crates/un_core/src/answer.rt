@@ -138,7 +138,8 @@ impl Net {
     ) -> Result<Reply, AllocError>
         requires kind { IsAnswerable ask.now.kind ask.now.barriers.tier }
         ensures reply { IfOk result (λ reply. reply ≡ traced (kept_survey self.now) ask.now) }
-        ensures ticks { OnOk result (steps.new ≤ steps.old + 2 * length (reached_from (kept_survey self.now) ask.now)) }
+        ensures ticks { OnOk result
+            (steps.new ≤ steps.old + 2 * length (reached_from (kept_survey self.now) ask.now)) }
     {
         // For the proof alone.
         let _version = self.version();
@@ -156,7 +157,8 @@ impl Net {
         requires kind { IsForLoops ask.now }
         requires starts { (n : Node) → Contains ask.now.starts n → Contains (nodes self.now.features) n }
         ensures reply { IfOk result (λ reply. reply ≡ traced (kept_survey self.now) ask.now) }
-        ensures ticks { OnOk result (steps.new ≤ steps.old + 2 * length (reached_from (kept_survey self.now) ask.now)) }
+        ensures ticks { OnOk result
+            (steps.new ≤ steps.old + 2 * length (reached_from (kept_survey self.now) ask.now)) }
     {
         // For the proof alone.
         let _version = self.version();
@@ -173,7 +175,8 @@ impl Net {
     ) -> Result<Reply, AllocError>
         requires { MayWalk self.now.features ask.now }
         ensures reply { IfOk result (λ reply. reply ≡ traced (kept_survey self.now) ask.now) }
-        ensures ticks { OnOk result (steps.new ≤ steps.old + 2 * length (reached_from (kept_survey self.now) ask.now)) }
+        ensures ticks { OnOk result
+            (steps.new ≤ steps.old + 2 * length (reached_from (kept_survey self.now) ask.now)) }
     {
         if is_loops(ask.kind) {
             self.loops_kept(alloc, ask, steps)
@@ -202,7 +205,8 @@ impl Net {
     ) -> Result<Reply, AllocError>
         requires { is_taken ask.now.kind ≡ true }
         ensures reply { IfOk result (λ reply. reply ≡ trace_on self.now (kept_basis self.now) ask.now) }
-        ensures ticks { OnOk result (steps.new ≤ steps.old + 2 * length (reached_by self.now (Trace ask.now))) }
+        ensures ticks { OnOk result
+            (steps.new ≤ steps.old + 2 * length (reached_by self.now (Trace ask.now))) }
     {
         match resolve(alloc, self.facts.setup(), &self.facts, ask) {
             Ok(typed) => {

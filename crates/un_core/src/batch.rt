@@ -65,9 +65,12 @@ impl Batched {
         requires association { self.old.net.next_association < 9_000_000_000_100_000 }
         requires area { self.old.net.next_area < 9_000_000_000_100_000 }
         ensures net { OnOk result (self.new.net ≡ made_at 0 self.old.net edit.now) }
-        ensures ids { OnOk result (self.new.ids.items ≡ self.old.ids.items ++ id_of self.old.net edit.now ∷ []) }
-        ensures touched { OnOk result (self.new.touched.items ≡ self.old.touched.items ++ touched self.old.net edit.now) }
-        ensures dirtied { OnOk result (self.new.dirtied.items ≡ self.old.dirtied.items ++ dirtied self.old.net.features edit.now) }
+        ensures ids { OnOk result (self.new.ids.items
+            ≡ self.old.ids.items ++ id_of self.old.net edit.now ∷ []) }
+        ensures touched { OnOk result (self.new.touched.items
+            ≡ self.old.touched.items ++ touched self.old.net edit.now) }
+        ensures dirtied { OnOk result (self.new.dirtied.items
+            ≡ self.old.dirtied.items ++ dirtied self.old.net.features edit.now) }
         ensures features { OnOk result (FeaturesGrow self.old.net self.new.net) }
         ensures associations { OnOk result (AssociationsGrow self.old.net self.new.net) }
         ensures areas { OnOk result (AreasGrow self.old.net self.new.net) }

@@ -55,7 +55,8 @@ impl Net {
     fn rebuilt(&self, alloc: Global, points: &[Point]) -> Result<Rebuilt, Refusal>
         ensures stars { IfOk result (λ r. AreRebuilt self.now points.now r.kept) }
         ensures kept { IfOk result (λ r. IsKept r.kept) }
-        ensures errors { IfOk result (λ r. r.errors ≡ sum_by (λ p. length (fresh_star self.now p).errors) points.now) }
+        ensures errors { IfOk result (λ r. r.errors
+            ≡ sum_by (λ p. length (fresh_star self.now p).errors) points.now) }
         ensures memory { IfErr result (λ refusal. refusal ≡ Memory) }
     {
         let mut kept = self.kept.share()?;

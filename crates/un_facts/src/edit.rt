@@ -58,9 +58,11 @@ impl Facts {
         requires new { AreNew (next_at ids moment) self.now.features }
         ensures features { IfOk result (λ m. m.facts ≡ edited self.now ids moment edit.now) }
         ensures dirtied { IfOk result (λ m. m.dirtied.items ≡ dirtied self.now.features edit.now) }
-        ensures may { OnOk result (MayBeMade (setting self.now.setup) (next_at ids moment) self.now.features edit.now) }
+        ensures may { OnOk result
+            (MayBeMade (setting self.now.setup) (next_at ids moment) self.now.features edit.now) }
         ensures good { OnOk result (refusal_of self.now edit.now ≡ None) }
-        ensures bad { IfErr result (λ refusal. refusal ≢ Memory → refusal_of self.now edit.now ≡ Some refusal) }
+        ensures bad { IfErr result (λ refusal. refusal ≢ Memory
+            → refusal_of self.now edit.now ≡ Some refusal) }
     {
         let Setup { schema, .. } = &*self.setup;
         // For the proof alone.
@@ -109,9 +111,11 @@ impl Facts {
         requires new { AreNew (next_at ids moment) self.now.features }
         ensures features { IfOk result (λ m. m.facts ≡ edited self.now ids moment edit.now) }
         ensures dirtied { IfOk result (λ m. m.dirtied.items ≡ dirtied self.now.features edit.now) }
-        ensures may { OnOk result (MayBeMade (setting self.now.setup) (next_at ids moment) self.now.features edit.now) }
+        ensures may { OnOk result
+            (MayBeMade (setting self.now.setup) (next_at ids moment) self.now.features edit.now) }
         ensures good { OnOk result (refusal_of self.now edit.now ≡ None) }
-        ensures bad { IfErr result (λ refusal. refusal ≢ Memory → refusal_of self.now edit.now ≡ Some refusal) }
+        ensures bad { IfErr result (λ refusal. refusal ≢ Memory
+            → refusal_of self.now edit.now ≡ Some refusal) }
     {
         let Setup { schema, tiers } = &*self.setup;
         // For the proof alone.
@@ -141,9 +145,11 @@ impl Facts {
         requires new { AreNew (next_at ids moment) self.now.features }
         ensures features { IfOk result (λ m. m.facts ≡ edited self.now ids moment edit.now) }
         ensures dirtied { IfOk result (λ m. m.dirtied.items ≡ dirtied self.now.features edit.now) }
-        ensures may { OnOk result (MayBeMade (setting self.now.setup) (next_at ids moment) self.now.features edit.now) }
+        ensures may { OnOk result
+            (MayBeMade (setting self.now.setup) (next_at ids moment) self.now.features edit.now) }
         ensures good { OnOk result (refusal_of self.now edit.now ≡ None) }
-        ensures bad { IfErr result (λ refusal. refusal ≢ Memory → refusal_of self.now edit.now ≡ Some refusal) }
+        ensures bad { IfErr result (λ refusal. refusal ≢ Memory
+            → refusal_of self.now edit.now ≡ Some refusal) }
     {
         if is_row_edit(edit) {
             self.edit_row(alloc, edit, ids, moment)

@@ -35,7 +35,8 @@ fn with_changed(
     before: Option<&Row>,
     after: Option<&Row>,
 ) -> Result<Grid, AllocError>
-    ensures { IfOk result (λ g. IfSome (option_copied before.entry) (λ r. IfSome (option_copied after.entry) (HasInPlace grid.now g r))) }
+    ensures { IfOk result (λ g. IfSome (option_copied before.entry)
+        (λ r. IfSome (option_copied after.entry) (HasInPlace grid.now g r))) }
 {
     match (before, after) {
         (Some(before), Some(after)) => grid.replace(alloc, before, after),
@@ -51,7 +52,8 @@ pub(crate) fn with_ports(
     before: Option<&Row>,
     after: Option<&Row>,
 ) -> Result<Grid, AllocError>
-    ensures { IfOk result (HasPorts edit.now (option_copied before.entry) (option_copied after.entry) grid.now) }
+    ensures { IfOk result
+        (HasPorts edit.now (option_copied before.entry) (option_copied after.entry) grid.now) }
 {
     match edit {
         Edit::Insert { .. } => with_row(grid, alloc, after),

@@ -52,7 +52,8 @@ fn envelope_of(row: Option<&Row>) -> Option<Rect>
 
 // What an edit makes dirty of the row itself: its envelope before the edit, and the one after it.
 fn own(edit: &Edit, before: Option<&Row>, after: Option<&Row>) -> (Option<Rect>, Option<Rect>)
-    ensures { option_to_list result.0 ++ option_to_list result.1 ≡ own_rectangles edit.now (option_copied before.entry) (option_copied after.entry) }
+    ensures { option_to_list result.0 ++ option_to_list result.1
+        ≡ own_rectangles edit.now (option_copied before.entry) (option_copied after.entry) }
 {
     match edit {
         Edit::Insert { .. } => (None, envelope_of(after)),
@@ -165,7 +166,8 @@ impl Facts {
 
     // Adds the envelopes of rows.
     fn add_envelopes(&self, rects: &mut Vec<Rect>, ids: &[u64]) -> Result<(), AllocError>
-        ensures { OnOk result (rects.new.items ≡ rects.old.items ++ flat_map (envelope_of self.now.features) ids.now) }
+        ensures { OnOk result (rects.new.items
+            ≡ rects.old.items ++ flat_map (envelope_of self.now.features) ids.now) }
     {
         for id in ids {
             add(rects, envelope_of(self.rows.row(*id)))?;

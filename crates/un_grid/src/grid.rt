@@ -67,7 +67,8 @@ impl Grid {
 
     /// The points at which a port stands and that the rectangle covers, rising.
     pub fn points(&self, alloc: Global, extent: Rect) -> Result<Vec<Point>, AllocError>
-        ensures points { IfOk result (λ points. points.items ≡ map (λ pair. pair.0) (covered extent self.now)) }
+        ensures points { IfOk result (λ points. points.items
+            ≡ map (λ pair. pair.0) (covered extent self.now)) }
         ensures grid { IsGrid self.now }
     {
         self.points.points(alloc, &extent)
@@ -75,7 +76,9 @@ impl Grid {
 
     // Puts one port more at a point.
     fn put_port(&mut self, alloc: Global, p: Point, port: Port) -> Result<(), AllocError>
-        ensures { OnOk result ((r : Point) → ports_in self.new r ≡ (if same_point r p then insert_key port_cmp (ports_in self.old p) port else ports_in self.old r)) }
+        ensures { OnOk result ((r : Point) → ports_in self.new r
+            ≡ (if same_point r p then insert_key port_cmp
+            (ports_in self.old p) port else ports_in self.old r)) }
     {
         let ports = with_port(alloc, self.at(p), port)?;
         let shared = Arc::new(alloc, Ports::new(ports))?;
@@ -85,7 +88,9 @@ impl Grid {
 
     // Takes one port out at a point.
     fn take_port(&mut self, alloc: Global, p: Point, port: Port) -> Result<(), AllocError>
-        ensures { OnOk result ((r : Point) → ports_in self.new r ≡ (if same_point r p then filter (λ q. not (same_port q port)) (ports_in self.old r) else ports_in self.old r)) }
+        ensures { OnOk result ((r : Point) → ports_in self.new r
+            ≡ (if same_point r p then filter
+            (λ q. not (same_port q port)) (ports_in self.old r) else ports_in self.old r)) }
     {
         let ports = without_port(alloc, self.at(p), port)?;
         if ports.is_empty() {

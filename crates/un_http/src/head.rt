@@ -43,9 +43,11 @@ fn parse_whole(block: &[u8], headers: &mut [HeaderSpan]) -> Result<RequestSpans,
     requires room { length headers.old ≡ HEADER_ROOM }
     requires short { length block.now ≤ MOST_BLOCK }
     ensures within { IfOk result (IsRequestWithin block.now headers.new) }
-    ensures ok { IfOk result (λ spans. (head : RequestHead) × IsHead block.now head × IsRequestAt block.now headers.new spans head) }
+    ensures ok { IfOk result (λ spans. (head : RequestHead)
+        × IsHead block.now head × IsRequestAt block.now headers.new spans head) }
     ensures whole { IfOk result (λ spans. spans.len ≡ length block.now) }
-    ensures err { IfErr result (λ check. (check ≡ Check.BadHead) × ((head : RequestHead) → ¬ (IsHead block.now head))) }
+    ensures err { IfErr result (λ check. (check ≡ Check.BadHead)
+        × ((head : RequestHead) → ¬ (IsHead block.now head))) }
 {
     match parse_request(block, headers) {
         Ok(Status::Complete(spans)) => {
@@ -65,7 +67,8 @@ fn body_length(block: &[u8], headers: &[HeaderSpan], method: &[u8]) -> Result<us
     requires { AreWithin block.now headers.now }
     ensures ok { IfOk result (λ size. (length_check method.now (headers_at block.now headers.now) ≡ None)
         × (size ≡ body_size (headers_at block.now headers.now)) × (size ≤ 1048576)) }
-    ensures err { IfErr result (λ check. length_check method.now (headers_at block.now headers.now) ≡ Some check) }
+    ensures err { IfErr result (λ check. length_check method.now (headers_at block.now headers.now)
+        ≡ Some check) }
 {
     match first_value(block, headers, b"content-length") {
         None if method == b"POST".as_slice() => Err(Check::NoLength),
@@ -96,7 +99,9 @@ fn check_headers(block: &[u8], headers: &[HeaderSpan], spans: RequestSpans) -> R
     requires method { IsWithin (length block.now) spans.method }
     requires path { IsWithin (length block.now) spans.path }
     ensures ok { IfOk result (IsChecked block.now (headers_at block.now headers.now) spans) }
-    ensures err { IfErr result (λ check. first_check (span_bytes block.now spans.method) (headers_at block.now headers.now) ≡ Some check) }
+    ensures err { IfErr result
+        (λ check. first_check (span_bytes block.now spans.method) (headers_at block.now headers.now)
+        ≡ Some check) }
 {
     if headers.len() > MOST_HEADERS {
         return Err(Check::ManyHeaders);

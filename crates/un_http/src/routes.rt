@@ -119,7 +119,8 @@ impl Routes {
 
 // The id in a text: decimal digits without leading zeros.
 fn read_id(text: &[u8]) -> Option<u64>
-    ensures { MatchOption result (is_id text.now ≡ false) (λ id. (is_id text.now ≡ true) × (id ≡ number text.now)) }
+    ensures { MatchOption result (is_id text.now ≡ false) (λ id. (is_id text.now ≡ true)
+        × (id ≡ number text.now)) }
 {
     if !is_number(text) || text.starts_with(b"0") {
         return None;
@@ -166,7 +167,8 @@ fn slash_at(text: &[u8]) -> usize
 
 // The index of the slash, if the text is two names with a slash between them.
 fn between_names(names: &[u8]) -> Option<usize>
-    ensures { MatchOption result ((a b : List ℕ) → names.now ≡ a ++ 47 ∷ b → is_name a ≡ true → is_name b ≡ true → ⊥)
+    ensures { MatchOption result ((a b : List ℕ) → names.now ≡ a ++ 47 ∷ b
+        → is_name a ≡ true → is_name b ≡ true → ⊥)
         (λ at. (at < length names.now) × (names.now ≡ take at names.now ++ 47 ∷ drop (at + 1) names.now)
         × (is_name (take at names.now) ≡ true) × (is_name (drop (at + 1) names.now) ≡ true)) }
 {
@@ -185,7 +187,8 @@ fn between_names(names: &[u8]) -> Option<usize>
 
 // The route of a subnetwork's path.
 fn subnetwork(path: &[u8]) -> Option<Route>
-    ensures { MatchOption result ((tier subnet : ℕ × ℕ) → ¬ (IsRoute path.now (Route.Subnetwork tier subnet))) (IsRoute path.now) }
+    ensures { MatchOption result ((tier subnet : ℕ × ℕ)
+        → ¬ (IsRoute path.now (Route.Subnetwork tier subnet))) (IsRoute path.now) }
 {
     let names = path.strip_prefix(b"/subnetworks/".as_slice())?;
     let slash = FIRST_NAME + between_names(names)?;

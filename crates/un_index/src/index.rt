@@ -64,7 +64,8 @@ impl Index {
     /// others copied. After an `Err` the topology is as it was.
     pub fn put(&mut self, alloc: Global, p: Point, star: Arc<Star>) -> Result<(), AllocError>
         ensures list { OnOk result (self.new ≡ replaced self.old p (arc_value star)) }
-        ensures stars { OnOk result ((q : Point) → stars_of self.new q ≡ (if same_point q p then arc_value star else stars_of self.old q)) }
+        ensures stars { OnOk result ((q : Point)
+            → stars_of self.new q ≡ (if same_point q p then arc_value star else stars_of self.old q)) }
         ensures err { OnErr result (self.new ≡ self.old) }
     {
         put_star(&mut self.stars, alloc, p, star)?;
@@ -110,7 +111,8 @@ fn put_star(
 ) -> Result<(), AllocError>
     requires { AreStars stars.old }
     ensures list { OnOk result (stars.new ≡ replaced stars.old p (arc_value star)) }
-    ensures stars { OnOk result ((q : Point) → stars_of stars.new q ≡ (if same_point q p then arc_value star else stars_of stars.old q)) }
+    ensures stars { OnOk result ((q : Point)
+        → stars_of stars.new q ≡ (if same_point q p then arc_value star else stars_of stars.old q)) }
     ensures kept { AreStars stars.new }
     ensures err { OnErr result (stars.new ≡ stars.old) }
 {

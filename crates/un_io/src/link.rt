@@ -98,7 +98,8 @@ impl Link for MemLink {
         ensures bytes { Writes (Some self.old.sink.taken) (Some self.new.sink.taken) piece.now result }
         ensures cause { CountsWrites self.old.sink.faults self.new.sink.faults result }
         ensures took { result ≡ next_write self.old.sink (length piece.now) }
-        ensures behind { self.new ≡ record { source = self.old.source; sink = written_by self.old.sink piece.now result } }
+        ensures behind { self.new
+            ≡ record { source = self.old.source; sink = written_by self.old.sink piece.now result } }
     {
         self.sink.write(piece)
     }

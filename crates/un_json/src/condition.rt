@@ -160,7 +160,8 @@ fn read_test(
     name: &Value,
     number: &Value,
 ) -> Result<Option<RawCond>, AllocError>
-    ensures { IfOk result (λ raw. option_map written raw ≡ test_of word.now (view name.now) (view number.now)) }
+    ensures { IfOk result (λ raw. option_map written raw
+        ≡ test_of word.now (view name.now) (view number.now)) }
 {
     let Some(op) = op_named(word) else {
         return Ok(None);

@@ -26,7 +26,8 @@ fn loops_among<G: Ground, L>(
     requires reach { IsReachOf (G.stars_and_areas over.now) ask.now reached.now }
     requires clean { dirt (G.stars_and_areas over.now) reached.now ≡ None }
     requires linked { AreLinked (G.stars_and_areas over.now) reached.now }
-    ensures reply { IfOk result (λ reply. reply ≡ loops_given_dirt None (G.stars_and_areas over.now) ask.now reached.now) }
+    ensures reply { IfOk result (λ reply. reply
+        ≡ loops_given_dirt None (G.stars_and_areas over.now) ask.now reached.now) }
     ensures ticks { OnOk result (steps.new ≤ steps.old + length reached.now) }
     ensures never_falls { steps.old ≤ steps.new }
 {

@@ -111,7 +111,8 @@ fn has_value_over(kept: &Paged<u64, u64>, first: u64) -> bool
 }
 
 fn great_values(alloc: Global, kept: &Paged<u64, u64>, first: u64) -> Result<Vec<u64>, AllocError>
-    ensures { IfOk result (λ v. v.items ≡ map (λ p. p.1) (filter (λ p. nat_lt 50 p.0) (from_on nat_cmp (Included first) kept.now))) }
+    ensures { IfOk result (λ v. v.items
+        ≡ map (λ p. p.1) (filter (λ p. nat_lt 50 p.0) (from_on nat_cmp (Included first) kept.now))) }
 {
     kept.range(Bound::Included(first))
         .filter(|pair| pair.0 > 50)

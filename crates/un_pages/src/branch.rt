@@ -85,7 +85,8 @@ impl<K: Ord + Copy, V, T: Level<K, V>> Branch<K, V, T> {
 
     // The first part that may have a key from the bound on, and the parts after it.
     pub(crate) fn open(&self, bound: &Bound<K>) -> (&T, Tail<'_, K, T>)
-        ensures { from_on K.cmp bound.now self.now ≡ from_on K.cmp bound.now (T.pairs result.0.now) ++ flat T.pairs result.1 }
+        ensures { from_on K.cmp bound.now self.now
+            ≡ from_on K.cmp bound.now (T.pairs result.0.now) ++ flat T.pairs result.1 }
     {
         parts::open(&self.row, bound)
     }

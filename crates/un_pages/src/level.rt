@@ -53,7 +53,8 @@ pub(crate) trait Level<K: Ord + Copy, V>: Drop {
 
     // One node, or two where the entries of one are too many.
     fn with(&self, alloc: Global, key: K, value: Arc<V>) -> Result<(Self, Option<Self>), AllocError>
-        ensures { IfOk result (λ r. spread pairs r ≡ insert_entry K.cmp (pairs self.now) key (arc_value value)) };
+        ensures { IfOk result (λ r. spread pairs r
+            ≡ insert_entry K.cmp (pairs self.now) key (arc_value value)) };
 
     // `with`, in the node itself.
     fn put(&mut self, alloc: Global, key: K, value: &Arc<V>) -> Result<Put, AllocError>

@@ -62,7 +62,8 @@ impl<K: Ord + Copy, V: Drop> Paged<K, V> {
     /// The first pair whose key is greater than `after`, or the first pair if `after` is `None`.
     pub fn next(&self, after: Option<K>) -> Option<(K, &Arc<V>)>
         ensures first { held result ≡ slice_get (past K.cmp after self.now) 0 }
-        ensures rest { IfSome result (λ p. past K.cmp after self.now ≡ pair_held p ∷ past K.cmp (Some p.0) self.now) }
+        ensures rest { IfSome result (λ p. past K.cmp after self.now
+            ≡ pair_held p ∷ past K.cmp (Some p.0) self.now) }
         ensures last { IfNone result (past K.cmp after self.now ≡ []) }
     {
         // For the proof alone.
@@ -120,7 +121,8 @@ impl<K: Ord + Copy, V: Drop> Paged<K, V> {
 
     // How many pairs there are once the key has a value.
     fn len_with(&self, key: &K) -> Result<u64, AllocError>
-        ensures len { IfOk result (λ n. n ≡ length self.now + (if is_some (lookup (is_at (K.cmp key.now)) self.now) then 0 else 1)) }
+        ensures len { IfOk result (λ n. n
+            ≡ length self.now + (if is_some (lookup (is_at (K.cmp key.now)) self.now) then 0 else 1)) }
         ensures ordered { IsOrdered K.cmp self.now }
     {
         match self.get(key) {
@@ -242,7 +244,8 @@ fn put_in_root<K: Ord + Copy, V: Drop>(
     key: K,
     value: &Arc<V>,
 ) -> Result<Put, AllocError>
-    ensures put { IfOk result (IsPut K.cmp (λ m. m) (all_of root.old) (all_of root.new) key (arc_value value.now)) }
+    ensures put { IfOk result
+        (IsPut K.cmp (λ m. m) (all_of root.old) (all_of root.new) key (arc_value value.now)) }
     ensures err { OnErr result (all_of root.new ≡ all_of root.old) }
 {
     let Some(root) = root else {

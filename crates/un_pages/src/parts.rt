@@ -70,7 +70,8 @@ pub(crate) fn open<'a, K: Ord + Copy, V, T: Level<K, V>>(
     bound: &Bound<K>,
 ) -> (&'a T, Tail<'a, K, T>)
     requires { IsGrown K.cmp T.pairs row.now }
-    ensures { from_on K.cmp bound.now (flat T.pairs row.now) ≡ from_on K.cmp bound.now (T.pairs result.0.now) ++ flat T.pairs result.1 }
+    ensures { from_on K.cmp bound.now (flat T.pairs row.now)
+        ≡ from_on K.cmp bound.now (T.pairs result.0.now) ++ flat T.pairs result.1 }
 {
     let at = row.start(bound);
     // For the proof alone.
@@ -117,7 +118,8 @@ pub(crate) fn with<K: Ord + Copy, V, T: Level<K, V>>(
     value: Arc<V>,
 ) -> Result<Row<K, T>, AllocError>
     requires { IsGrown K.cmp T.pairs row.now }
-    ensures pairs { IfOk result (λ r. flat T.pairs r ≡ insert_entry K.cmp (flat T.pairs row.now) key (arc_value value)) }
+    ensures pairs { IfOk result (λ r. flat T.pairs r
+        ≡ insert_entry K.cmp (flat T.pairs row.now) key (arc_value value)) }
     ensures grown { IfOk result (IsGrown K.cmp T.pairs) }
     ensures bound { IfOk result (λ r. length r ≤ length row.now + 1) }
 {
@@ -213,7 +215,8 @@ pub(crate) fn without<K: Ord + Copy, V, T: Level<K, V>>(
     key: &K,
 ) -> Result<Row<K, T>, AllocError>
     requires { IsGrown K.cmp T.pairs row.now }
-    ensures pairs { IfOk result (λ r. flat T.pairs r ≡ remove_entry (is_at (K.cmp key.now)) (flat T.pairs row.now)) }
+    ensures pairs { IfOk result (λ r. flat T.pairs r
+        ≡ remove_entry (is_at (K.cmp key.now)) (flat T.pairs row.now)) }
     ensures changed { IfOk result (IsChanged K.cmp T.pairs (length row.now)) }
 {
     let at = row.place(key);
@@ -233,8 +236,10 @@ fn replaced<K: Ord + Copy, V, T: Level<K, V>>(
 ) -> Result<Row<K, T>, AllocError>
     requires within { at < length row.now }
     requires leads { HasFirstKeys T.pairs row.now }
-    requires ordered { IsOrdered K.cmp (flat T.pairs (take at row.now) ++ (T.pairs rest ++ flat T.pairs (drop (suc at) row.now))) }
-    ensures pairs { IfOk result (λ r. flat T.pairs r ≡ flat T.pairs (take at row.now) ++ (T.pairs rest ++ flat T.pairs (drop (suc at) row.now))) }
+    requires ordered { IsOrdered K.cmp (flat T.pairs (take at row.now)
+        ++ (T.pairs rest ++ flat T.pairs (drop (suc at) row.now))) }
+    ensures pairs { IfOk result (λ r. flat T.pairs r
+        ≡ flat T.pairs (take at row.now) ++ (T.pairs rest ++ flat T.pairs (drop (suc at) row.now))) }
     ensures leads { IfOk result (HasFirstKeys T.pairs) }
     ensures bound { IfOk result (λ r. length r ≤ length row.now) }
 {

@@ -47,7 +47,8 @@ impl<'a, K: Ord + Copy, V, T: Level<K, V>> Under<'a, K, V, T> {
 
     // The next part.
     fn next(&mut self) -> Option<&'a T>
-        ensures { MatchOption result ((self.old ≡ []) × (self.new ≡ [])) (λ t. self.old ≡ T.pairs t.now ++ self.new) }
+        ensures { MatchOption result ((self.old ≡ [])
+            × (self.new ≡ [])) (λ t. self.old ≡ T.pairs t.now ++ self.new) }
     {
         if let Some((_, part)) = self.here.next() {
             return Some(part);
@@ -108,7 +109,9 @@ fn turn<'a, K: Ord + Copy, V: Drop>(
     pages: &mut Tail<'a, K, Page<K, V>>,
     blocks: &mut Under<'a, K, V, Block<K, V>>,
 ) -> Option<&'a Page<K, V>>
-    ensures { MatchOption result ((flat (λ p. p) pages.old ++ blocks.old ≡ []) × (flat (λ p. p) pages.new ++ blocks.new ≡ [])) (λ t. flat (λ p. p) pages.old ++ blocks.old ≡ t.now ++ (flat (λ p. p) pages.new ++ blocks.new)) }
+    ensures { MatchOption result ((flat (λ p. p) pages.old ++ blocks.old ≡ [])
+        × (flat (λ p. p) pages.new ++ blocks.new ≡ [])) (λ t. flat (λ p. p) pages.old ++ blocks.old
+        ≡ t.now ++ (flat (λ p. p) pages.new ++ blocks.new)) }
 {
     if let Some((_, page)) = pages.next() {
         return Some(page);

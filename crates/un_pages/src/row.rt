@@ -172,7 +172,8 @@ impl<K: Ord + Copy, X> Row<K, X> {
     where
         X: Drop,
         requires { at < length self.old }
-        ensures { IfSome (slice_get self.old at) (λ p. self.new ≡ take at self.old ++ (((p.0, arc_value value) ∷ []) ++ drop (at + 1) self.old)) }
+        ensures { IfSome (slice_get self.old at) (λ p. self.new
+            ≡ take at self.old ++ (((p.0, arc_value value) ∷ []) ++ drop (at + 1) self.old)) }
     {
         self.items[at].1 = value;
     }
@@ -183,7 +184,8 @@ impl<K: Ord + Copy, X> Row<K, X> {
     where
         X: Drop,
         requires { at ≤ length self.old }
-        ensures ok { OnOk result (self.new ≡ take at self.old ++ (((key, arc_value value) ∷ []) ++ drop at self.old)) }
+        ensures ok { OnOk result (self.new
+            ≡ take at self.old ++ (((key, arc_value value) ∷ []) ++ drop at self.old)) }
         ensures err { OnErr result (self.new ≡ self.old) }
     {
         self.items.insert(at, (key, value))?;
@@ -214,7 +216,8 @@ impl<K: Ord + Copy, X> Row<K, X> {
         X: Level<K, V>,
         requires within { at < length self.old }
         requires leads { IfSome (slice_get self.old at) (λ p. first_key (X.pairs p.1) ≡ Some p.0) }
-        ensures put { IfOk result (λ r. IsChangedAt X.pairs self.old self.new at (λ was now. IsPut K.cmp (λ p. X.pairs p.1) was now key (arc_value value.now) r)) }
+        ensures put { IfOk result (λ r. IsChangedAt X.pairs self.old self.new at
+            (λ was now. IsPut K.cmp (λ p. X.pairs p.1) was now key (arc_value value.now) r)) }
         ensures err { OnErr result (self.new ≡ self.old) }
     {
         put_beside(&mut self.items[at], alloc, key, value)
@@ -232,7 +235,8 @@ impl<K: Ord + Copy, X> Row<K, X> {
         X: Level<K, V>,
         requires within { at < length self.old }
         requires leads { IfSome (slice_get self.old at) (λ p. first_key (X.pairs p.1) ≡ Some p.0) }
-        ensures taken { IfOk result (λ r. IsChangedAt X.pairs self.old self.new at (λ was now. IsTaken K.cmp (λ p. X.pairs p.1) was now key.now r)) }
+        ensures taken { IfOk result (λ r. IsChangedAt X.pairs self.old self.new at
+            (λ was now. IsTaken K.cmp (λ p. X.pairs p.1) was now key.now r)) }
         ensures err { OnErr result (self.new ≡ self.old) }
     {
         take_beside(&mut self.items[at], alloc, key)
@@ -363,7 +367,8 @@ fn put_into<K: Ord + Copy, V, T: Level<K, V>>(
     key: K,
     value: &Arc<V>,
 ) -> Result<Put, AllocError>
-    ensures put { IfOk result (IsPut K.cmp T.pairs (arc_value part.old) (arc_value part.new) key (arc_value value.now)) }
+    ensures put { IfOk result
+        (IsPut K.cmp T.pairs (arc_value part.old) (arc_value part.new) key (arc_value value.now)) }
     ensures err { OnErr result (arc_value part.new ≡ arc_value part.old) }
 {
     match Arc::get_mut(part) {
@@ -380,7 +385,8 @@ fn put_beside<K: Ord + Copy, V, T: Level<K, V>>(
     value: &Arc<V>,
 ) -> Result<Put, AllocError>
     requires { first_key (T.pairs (arc_value item.old.1)) ≡ Some item.old.0 }
-    ensures put { IfOk result (IsPut K.cmp (λ p. T.pairs p.1) (pair_of item.old) (pair_of item.new) key (arc_value value.now)) }
+    ensures put { IfOk result
+        (IsPut K.cmp (λ p. T.pairs p.1) (pair_of item.old) (pair_of item.new) key (arc_value value.now)) }
     ensures leads { first_key (T.pairs (arc_value item.new.1)) ≡ Some item.new.0 }
     ensures err { OnErr result (pair_of item.new ≡ pair_of item.old) }
 {
@@ -418,7 +424,8 @@ fn take_beside<K: Ord + Copy, V, T: Level<K, V>>(
     key: &K,
 ) -> Result<Taken, AllocError>
     requires { first_key (T.pairs (arc_value item.old.1)) ≡ Some item.old.0 }
-    ensures taken { IfOk result (IsTaken K.cmp (λ p. T.pairs p.1) (pair_of item.old) (pair_of item.new) key.now) }
+    ensures taken { IfOk result
+        (IsTaken K.cmp (λ p. T.pairs p.1) (pair_of item.old) (pair_of item.new) key.now) }
     ensures leads { first_key (T.pairs (arc_value item.new.1)) ≡ Some item.new.0 }
     ensures err { OnErr result (pair_of item.new ≡ pair_of item.old) }
 {

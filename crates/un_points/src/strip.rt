@@ -9,7 +9,8 @@ use un_geom::{Point, Rect};
 
 // Where a walk over the points under the rectangle may begin that is to begin after a point, or at the first point.
 pub(crate) fn start(extent: &Rect, after: Option<Point>) -> Option<Point>
-    ensures { (q : Point) → covers extent.now q ≡ true → is_past point_cmp result q ≡ is_past point_cmp after q }
+    ensures { (q : Point) → covers extent.now q ≡ true
+        → is_past point_cmp result q ≡ is_past point_cmp after q }
 {
     let x0 = left(extent);
     let Some(point) = after else {
@@ -32,8 +33,10 @@ pub(crate) fn is_beyond(extent: &Rect, point: Point) -> bool
 // The point after which a walk that is at a point may go on. Where the point is below or above the rectangle, it is a later one of the
 // same column, and the rectangle covers no point between the two. Otherwise it is the point itself.
 pub(crate) fn skip(extent: &Rect, point: Point) -> Point
-    ensures same { (q : Point) → covers extent.now q ≡ true → is_past point_cmp (Some point) q ≡ is_past point_cmp (Some result) q }
-    ensures later { (q : Point) → is_past point_cmp (Some result) q ≡ true → is_past point_cmp (Some point) q ≡ true }
+    ensures same { (q : Point) → covers extent.now q ≡ true
+        → is_past point_cmp (Some point) q ≡ is_past point_cmp (Some result) q }
+    ensures later { (q : Point) → is_past point_cmp (Some result) q ≡ true
+        → is_past point_cmp (Some point) q ≡ true }
 {
     let below = below_bottom(extent);
     let top = top(extent);

@@ -71,7 +71,8 @@ fn put_comma(out: &mut Vec<u8>, place: usize)
 #[tactic(auto, using(crate::proofs::Steps::printed_one, crate::proofs::Steps::printed_all))]
 fn put_elements(out: &mut Vec<u8>, numbers: &[u64])
     requires { vec_len out.old + 21 * length numbers.now ≤ vec_capacity out.old }
-    ensures items { out.new.items ++ codes "]" ≡ out.old.items ++ items_text false (items_of count numbers.now) }
+    ensures items { out.new.items ++ codes "]"
+        ≡ out.old.items ++ items_text false (items_of count numbers.now) }
     ensures len { vec_len out.new ≤ vec_len out.old + 21 * length numbers.now }
     ensures capacity { vec_capacity out.old ≤ vec_capacity out.new }
 {

@@ -19,7 +19,8 @@ use un_defs::port::Ports;
 use un_schema::Name;
 
 fn show_version(version: u64, out: &mut Writer) -> Result<(), AllocError>
-    ensures ok { OnOk result (out.new.tokens ≡ out.old.tokens ++ json_tokens (outline (reply_value (reply.Version version)))) }
+    ensures ok { OnOk result (out.new.tokens
+        ≡ out.old.tokens ++ json_tokens (outline (reply_value (reply.Version version)))) }
     ensures before { out.new.before ≡ out.old.before }
 {
     out.begin_object()?;
@@ -29,7 +30,8 @@ fn show_version(version: u64, out: &mut Writer) -> Result<(), AllocError>
 }
 
 fn show_dirty(areas: &Areas, version: u64, out: &mut Writer) -> Result<(), AllocError>
-    ensures ok { OnOk result (out.new.tokens ≡ out.old.tokens ++ json_tokens (outline (reply_value (reply.Dirty areas.now version)))) }
+    ensures ok { OnOk result (out.new.tokens
+        ≡ out.old.tokens ++ json_tokens (outline (reply_value (reply.Dirty areas.now version)))) }
     ensures before { out.new.before ≡ out.old.before }
 {
     out.begin_object()?;
@@ -40,7 +42,8 @@ fn show_dirty(areas: &Areas, version: u64, out: &mut Writer) -> Result<(), Alloc
 }
 
 fn show_errors(errors: &PlacedErrors, version: u64, out: &mut Writer) -> Result<(), AllocError>
-    ensures ok { OnOk result (out.new.tokens ≡ out.old.tokens ++ json_tokens (outline (reply_value (reply.Errors errors.now version)))) }
+    ensures ok { OnOk result (out.new.tokens
+        ≡ out.old.tokens ++ json_tokens (outline (reply_value (reply.Errors errors.now version)))) }
     ensures before { out.new.before ≡ out.old.before }
 {
     out.begin_object()?;
@@ -80,7 +83,9 @@ fn show_controllers(
     version: u64,
     out: &mut Writer,
 ) -> Result<(), AllocError>
-    ensures ok { OnOk result (out.new.tokens ≡ out.old.tokens ++ json_tokens (outline (reply_value (reply.Controllers controllers.now version)))) }
+    ensures ok { OnOk result (out.new.tokens
+        ≡ out.old.tokens
+        ++ json_tokens (outline (reply_value (reply.Controllers controllers.now version)))) }
     ensures before { out.new.before ≡ out.old.before }
 {
     out.begin_object()?;
@@ -91,7 +96,8 @@ fn show_controllers(
 }
 
 fn show_loops(segments: &Segments, version: u64, out: &mut Writer) -> Result<(), AllocError>
-    ensures ok { OnOk result (out.new.tokens ≡ out.old.tokens ++ json_tokens (outline (reply_value (reply.Loops segments.now version)))) }
+    ensures ok { OnOk result (out.new.tokens
+        ≡ out.old.tokens ++ json_tokens (outline (reply_value (reply.Loops segments.now version)))) }
     ensures before { out.new.before ≡ out.old.before }
 {
     out.begin_object()?;

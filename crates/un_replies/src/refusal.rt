@@ -162,7 +162,8 @@ fn put_middle(out: &mut Vec<u8>, refusal: &Refusal)
 #[tactic(auto, using(crate::proofs::Plain::place_text_plain, crate::proofs::Plain::place_text_short), unfolding(serde_json::proofs::OnLiterals::serde_json_on_literals))]
 fn follow_place(out: &mut Vec<u8>, place: Place)
     requires { vec_len out.old + 32 ≤ vec_capacity out.old }
-    ensures items { out.new.items ≡ out.old.items ++ following ((codes "place", string (place_text place)) ∷ []) }
+    ensures items { out.new.items
+        ≡ out.old.items ++ following ((codes "place", string (place_text place)) ∷ []) }
     ensures len { vec_len out.new ≤ vec_len out.old + 32 }
     ensures capacity { vec_capacity out.old ≤ vec_capacity out.new }
 {
@@ -252,7 +253,8 @@ fn put_version(out: &mut Vec<u8>, number: u64, version: u64)
 fn put_numbered(out: &mut Vec<u8>, refusal: &Refusal, edit: Option<u64>, version: u64)
     requires named { HasName refusal.now }
     requires room { vec_len out.old + 400 ≤ vec_capacity out.old }
-    ensures items { out.new.items ≡ out.old.items ++ compact_text (fields_value (fields_of refusal.now) edit version) }
+    ensures items { out.new.items
+        ≡ out.old.items ++ compact_text (fields_value (fields_of refusal.now) edit version) }
     ensures len { vec_len out.new ≤ vec_len out.old + 400 }
     ensures capacity { vec_capacity out.old ≤ vec_capacity out.new }
 {

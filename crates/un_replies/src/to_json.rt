@@ -23,7 +23,8 @@ pub(crate) trait ToJson {
 
     /// Writes the value. If memory runs out, part of it may be missing.
     fn show(&self, out: &mut Writer) -> Result<(), AllocError>
-        ensures ok { OnOk result (out.new.tokens ≡ out.old.tokens ++ json_tokens (outline (json_value self.now))) }
+        ensures ok { OnOk result (out.new.tokens
+            ≡ out.old.tokens ++ json_tokens (outline (json_value self.now))) }
         ensures before { out.new.before ≡ out.old.before };
 }
 

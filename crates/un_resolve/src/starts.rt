@@ -39,7 +39,8 @@ fn start_node<D: Directory>(features: &D, start: Port) -> Option<Node>
 /// Refuses the first port whose feature is not live.
 fn check_features<D: Directory>(features: &D, ports: &[Port]) -> Result<(), Refusal>
     ensures good { OnOk result (first_refusal (map (no_feature (D.features features.now)) ports.now) ≡ None) }
-    ensures bad { IfErr result (λ r. first_refusal (map (no_feature (D.features features.now)) ports.now) ≡ Some r) }
+    ensures bad { IfErr result (λ r. first_refusal (map (no_feature (D.features features.now)) ports.now)
+        ≡ Some r) }
 {
     for port in ports {
         if features.row(port.feature).is_none() {
@@ -52,7 +53,8 @@ fn check_features<D: Directory>(features: &D, ports: &[Port]) -> Result<(), Refu
 /// Refuses the first port that its feature has not.
 fn check_ports<D: Directory>(features: &D, ports: &[Port]) -> Result<(), Refusal>
     ensures good { OnOk result (first_refusal (map (no_start (D.features features.now)) ports.now) ≡ None) }
-    ensures bad { IfErr result (λ r. first_refusal (map (no_start (D.features features.now)) ports.now) ≡ Some r) }
+    ensures bad { IfErr result (λ r. first_refusal (map (no_start (D.features features.now)) ports.now)
+        ≡ Some r) }
 {
     for port in ports {
         if start_node(features, *port).is_none() {
@@ -106,7 +108,8 @@ fn controller_ports<D: Directory>(
     tier: Option<u8>,
 ) -> Result<Vec<Port>, AllocError>
     requires { tier ≡ tier_of setup.now ask.now }
-    ensures { IfOk result (λ ports. ports.items ≡ controller_ports setup.now (D.features features.now) ask.now) }
+    ensures { IfOk result (λ ports. ports.items
+        ≡ controller_ports setup.now (D.features features.now) ask.now) }
 {
     match (tier, &ask.subnet) {
         (Some(tier), Some(subnet)) => features.controllers_of(alloc, tier, subnet.text()),
@@ -123,9 +126,11 @@ fn start_ports<D: Directory>(
     tier: Option<u8>,
 ) -> Result<Vec<Port>, Refusal>
     requires { tier ≡ tier_of setup.now ask.now }
-    ensures ports { IfOk result (λ ports. ports.items ≡ start_ports setup.now (D.features features.now) ask.now) }
+    ensures ports { IfOk result (λ ports. ports.items
+        ≡ start_ports setup.now (D.features features.now) ask.now) }
     ensures good { OnOk result (no_subnet setup.now (D.features features.now) ask.now ≡ None) }
-    ensures bad { IfErr result (λ r. r ≢ Memory → no_subnet setup.now (D.features features.now) ask.now ≡ Some r) }
+    ensures bad { IfErr result (λ r. r ≢ Memory
+        → no_subnet setup.now (D.features features.now) ask.now ≡ Some r) }
 {
     if !is_subnetwork(ask.kind) {
         return Ok(ask.starts.as_slice().to_vec(alloc)?);
@@ -145,11 +150,13 @@ pub(crate) fn starts_of<D: Directory>(
     features: &D,
     ask: &TraceAsk,
 ) -> Result<Starts, Refusal>
-    ensures nodes { IfOk result (λ s. s.nodes.items ≡ start_nodes setup.now (D.features features.now) ask.now) }
+    ensures nodes { IfOk result (λ s. s.nodes.items
+        ≡ start_nodes setup.now (D.features features.now) ask.now) }
     ensures tier { IfOk result (λ s. s.tier ≡ tier_of setup.now ask.now) }
     ensures found { OnOk result (no_tier setup.now ask.now ≡ None) }
     ensures good { OnOk result (starts_refusal setup.now (D.features features.now) ask.now ≡ None) }
-    ensures bad { IfErr result (λ r. r ≢ Memory → starts_refusal setup.now (D.features features.now) ask.now ≡ Some r) }
+    ensures bad { IfErr result (λ r. r ≢ Memory
+        → starts_refusal setup.now (D.features features.now) ask.now ≡ Some r) }
 {
     let given = given_starts(ask);
     check_features(features, given)?;

@@ -87,11 +87,14 @@ pub fn resolve<D: Directory>(
 ) -> Result<TypedAsk, Refusal>
     ensures typed { IfOk result (λ typed. typed ≡ resolved setup.now (D.features features.now) ask.now) }
     // Each start is a node of the features.
-    ensures starts { OnOk result ((n : Node) → Contains (start_nodes setup.now (D.features features.now) ask.now) n → Contains (nodes (D.features features.now)) n) }
+    ensures starts { OnOk result ((n : Node)
+        → Contains (start_nodes setup.now (D.features features.now) ask.now) n
+        → Contains (nodes (D.features features.now)) n) }
     ensures good { OnOk result (resolving_refusal setup.now (D.features features.now) ask.now ≡ None) }
     // A trace that walks in a tier has one.
     ensures tier { OnOk result (IsTrue (needs_tier ask.now.kind) → IsSome (tier_of setup.now ask.now)) }
-    ensures bad { IfErr result (λ r. r ≢ Memory → resolving_refusal setup.now (D.features features.now) ask.now ≡ Some r) }
+    ensures bad { IfErr result (λ r. r ≢ Memory
+        → resolving_refusal setup.now (D.features features.now) ask.now ≡ Some r) }
 {
     if let Some(refusal) = lacking(ask) {
         return Err(refusal);

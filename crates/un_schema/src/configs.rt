@@ -64,7 +64,8 @@ fn pairs_and_ends(
     alloc: Global,
     paths: &[RawPath],
 ) -> Result<(Vec<[u8; 2]>, Vec<usize>), AllocError>
-    ensures paths { IfOk result (λ r. paths_of 0 r.0.items r.1.items ≡ map (λ path. map pair_of path.pairs) paths.now) }
+    ensures paths { IfOk result (λ r. paths_of 0 r.0.items r.1.items
+        ≡ map (λ path. map pair_of path.pairs) paths.now) }
     ensures ends { IfOk result (λ r. AreEnds 0 (length r.0.items) r.1.items) }
     ensures len { IfOk result (λ r. length r.1.items ≡ length paths.now) }
 {

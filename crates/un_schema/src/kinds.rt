@@ -202,9 +202,11 @@ pub(crate) fn kind_list(
 ) -> Result<Vec<Kind>, MemberFault>
     requires categories { length categories.now ≤ 32 }
     requires configs { length configs.now ≤ 64 }
-    ensures ok { IfOk result (λ kinds. kinds.items ≡ map (kind_from categories.now configs.now) (items_of member.now)) }
+    ensures ok { IfOk result (λ kinds. kinds.items
+        ≡ map (kind_from categories.now configs.now) (items_of member.now)) }
     ensures good { OnOk result (has (are_kinds categories.now configs.now) member.now ≡ true) }
-    ensures bad { IsErrOf result MemberFault.Bad → has (are_kinds categories.now configs.now) member.now ≡ false }
+    ensures bad { IsErrOf result MemberFault.Bad
+        → has (are_kinds categories.now configs.now) member.now ≡ false }
 {
     let Some(raws) = member else {
         return Err(MemberFault::Bad);

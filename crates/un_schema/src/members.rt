@@ -57,7 +57,8 @@ pub(crate) fn categories(alloc: Global, raw: &RawSchema) -> Result<Vec<Name>, Sc
 pub(crate) fn configs(alloc: Global, raw: &RawSchema) -> Result<Vec<NamedConfig>, SchemaFault>
     requires attributes { good_attributes raw.now ≡ true }
     requires categories { good_categories raw.now ≡ true }
-    ensures ok { IfOk result (λ configs. map path_set configs.items ≡ map config_from (items_of raw.now.configs)) }
+    ensures ok { IfOk result (λ configs. map path_set configs.items
+        ≡ map config_from (items_of raw.now.configs)) }
     ensures few { OnOk result (length (items_of raw.now.configs) ≤ 64) }
     ensures good { OnOk result (good_configs raw.now ≡ true) }
     ensures bad { IfErr result (λ fault. OnBadSchema fault (λ place. bad_place raw.now ≡ Some place)) }
@@ -112,7 +113,8 @@ pub(crate) fn kinds(
 
 fn own_rules(alloc: Global, raw: &RawSchema, bare: &Schema) -> Result<RuleList, MemberFault>
     requires same { bare.now ≡ kinds_from raw.now }
-    ensures ok { IfOk result (λ rules. rules ≡ filter_map (rule_from raw.now.format (kinds_from raw.now)) (items_of raw.now.rules)) }
+    ensures ok { IfOk result (λ rules. rules
+        ≡ filter_map (rule_from raw.now.format (kinds_from raw.now)) (items_of raw.now.rules)) }
     ensures few { IfOk result (λ rules. length rules ≤ 4096) }
     ensures fit { IfOk result (λ rules. All (λ rule. IsTrue (fits (kinds_from raw.now) rule)) rules) }
     ensures good { OnOk result (good_rules raw.now ≡ true) }
@@ -128,7 +130,8 @@ pub(crate) fn rules(alloc: Global, raw: &RawSchema, bare: &Schema) -> Result<Rul
     requires categories { good_categories raw.now ≡ true }
     requires configs { good_configs raw.now ≡ true }
     requires kinds { good_kinds raw.now ≡ true }
-    ensures ok { IfOk result (λ rules. rules ≡ filter_map (rule_from raw.now.format (kinds_from raw.now)) (items_of raw.now.rules)) }
+    ensures ok { IfOk result (λ rules. rules
+        ≡ filter_map (rule_from raw.now.format (kinds_from raw.now)) (items_of raw.now.rules)) }
     ensures few { IfOk result (λ rules. length rules ≤ 4096) }
     ensures fit { IfOk result (λ rules. All (λ rule. IsTrue (fits (kinds_from raw.now) rule)) rules) }
     ensures good { OnOk result (good_rules raw.now ≡ true) }

@@ -119,7 +119,8 @@ fn own_rules(
 ) -> Result<Vec<Rule>, MemberFault>
     ensures ok { IfOk result (λ rules. rules.items ≡ filter_map (rule_from format schema.now) raws.now) }
     ensures good { OnOk result (list_all (λ raw. is_some (rule_from format schema.now raw)) raws.now ≡ true) }
-    ensures bad { IsErrOf result MemberFault.Bad → list_all (λ raw. is_some (rule_from format schema.now raw)) raws.now ≡ false }
+    ensures bad { IsErrOf result MemberFault.Bad
+        → list_all (λ raw. is_some (rule_from format schema.now raw)) raws.now ≡ false }
 {
     let mut rules = Vec::with_capacity(alloc, raws.len())?;
     for raw in raws {
@@ -155,7 +156,8 @@ pub(crate) fn rule_list(
     format: Format,
     member: &Option<Items<RawRule>>,
 ) -> Result<RuleList, MemberFault>
-    ensures ok { IfOk result (λ rules. rules ≡ filter_map (rule_from format schema.now) (items_of member.now)) }
+    ensures ok { IfOk result (λ rules. rules
+        ≡ filter_map (rule_from format schema.now) (items_of member.now)) }
     ensures few { IfOk result (λ rules. length rules ≤ 4096) }
     ensures fit { IfOk result (λ rules. All (λ rule. IsTrue (fits schema.now rule)) rules) }
     ensures good { OnOk result (has (are_rules format schema.now) member.now ≡ true) }

@@ -87,7 +87,8 @@ fn read_texts_of(
     config: &Value,
     categories: &Value,
 ) -> Result<Option<RawKind>, AllocError>
-    ensures { IfOk result (λ kind. kind ≡ kind_parts marks (view name.now) (view config.now) (view categories.now)) }
+    ensures { IfOk result (λ kind. kind
+        ≡ kind_parts marks (view name.now) (view config.now) (view categories.now)) }
 {
     let Some(name) = read_text(alloc, name)? else {
         return Ok(None);

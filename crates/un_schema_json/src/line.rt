@@ -44,7 +44,8 @@ pub fn read_schema(alloc: Global, line: &[u8]) -> Result<(Schema, Tiers), Schema
 
 fn value_of(alloc: Global, line: &[u8]) -> Result<Value, SchemaFault>
     ensures ok { IfOk result (λ value. json_of line.now ≡ Some (view value)) }
-    ensures bad { IfErr result (λ fault. OnBadSchema fault (λ p. (json_of line.now ≡ None) × (p ≡ place.Whole))) }
+    ensures bad { IfErr result (λ fault. OnBadSchema fault (λ p. (json_of line.now ≡ None)
+        × (p ≡ place.Whole))) }
 {
     match read_json(alloc, line) {
         Ok(value) => Ok(value),
@@ -71,7 +72,8 @@ fn read_value(alloc: Global, value: &Value) -> Result<(Schema, Tiers), SchemaFau
 
 #[tactic(auto, unfolding(un_json::specs::Rows::required_member))]
 fn source_at(object: &Value) -> Result<Source, SchemaFault>
-    ensures ok { IfOk result (λ source. required_member place.Schema source_of (view object.now) ≡ Ok source) }
+    ensures ok { IfOk result (λ source. required_member place.Schema source_of (view object.now)
+        ≡ Ok source) }
     ensures bad { IfErr result
         (λ fault. OnBadSchema fault (λ p. required_member place.Schema source_of (view object.now) ≡ Err p)) }
 {

@@ -60,7 +60,8 @@ fn schema_of(alloc: Global, format: Format, object: &Value) -> Result<Schema, Sc
 #[tactic(auto, unfolding(un_json::specs::Rows::no_others))]
 pub(crate) fn refuse_others(object: &Value, places: &[Place]) -> Result<(), SchemaFault>
     ensures ok { OnOk result (no_others places.now (view object.now) ≡ Ok tt) }
-    ensures bad { IfErr result (λ fault. OnBadSchema fault (λ place. no_others places.now (view object.now) ≡ Err place)) }
+    ensures bad { IfErr result
+        (λ fault. OnBadSchema fault (λ place. no_others places.now (view object.now) ≡ Err place)) }
 {
     match object.as_object() {
         Some(members) if some_other(members, places) => {

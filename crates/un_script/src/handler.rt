@@ -115,7 +115,8 @@ fn apply(
     out: &mut Vec<u8>,
 ) -> Result<(), AllocError>
     requires room { vec_len out.old + REPLY_ROOM ≤ vec_capacity out.old }
-    ensures reply { OnOk result (out.new.items ≡ out.old.items ++ (print (command_reply net.old command.now) ++ 10 ∷ [])) }
+    ensures reply { OnOk result (out.new.items
+        ≡ out.old.items ++ (print (command_reply net.old command.now) ++ 10 ∷ [])) }
     ensures state { OnOk result (net.new ≡ state_after net.old command.now) }
     ensures err { OnErr result ((net.new ≡ net.old) × (out.new.items ≡ out.old.items)) }
     ensures capacity { vec_capacity out.old ≤ vec_capacity out.new }
@@ -146,7 +147,8 @@ fn tell<L>(
     steps: &mut Steps<L>,
     out: &mut Vec<u8>,
 ) -> Result<(), AllocError>
-    ensures reply { OnOk result (out.new.items ≡ out.old.items ++ (print (answer net.now query.now) ++ 10 ∷ [])) }
+    ensures reply { OnOk result (out.new.items
+        ≡ out.old.items ++ (print (answer net.now query.now) ++ 10 ∷ [])) }
     ensures err { OnErr result (out.new.items ≡ out.old.items) }
     ensures capacity { vec_capacity out.old ≤ vec_capacity out.new }
 {
@@ -176,7 +178,8 @@ fn answer<L>(
     out: &mut Vec<u8>,
 ) -> Result<(), AllocError>
     requires { vec_len out.old + REPLY_ROOM ≤ vec_capacity out.old }
-    ensures reply { OnOk result (out.new.items ≡ out.old.items ++ (print (reply_to_line net.old (ask line.now)) ++ 10 ∷ [])) }
+    ensures reply { OnOk result (out.new.items
+        ≡ out.old.items ++ (print (reply_to_line net.old (ask line.now)) ++ 10 ∷ [])) }
     ensures state { OnOk result (net.new ≡ state_behind_line net.old (ask line.now)) }
     ensures err { OnErr result ((net.new ≡ net.old) × (out.new.items ≡ out.old.items)) }
     ensures capacity { vec_capacity out.old ≤ vec_capacity out.new }

@@ -47,43 +47,54 @@ pub fn run_script<S: Source, K: Sink, L>(
     ensures headline { Headline }
 
     // 0: the input was read to its end, and all that is due is written.
-    ensures ended { result ≡ 0 → Ran (S.left source.old) (S.left source.new) (K.taken sink.old) (K.taken sink.new)
+    ensures ended { result ≡ 0
+        → Ran (S.left source.old) (S.left source.new) (K.taken sink.old) (K.taken sink.new)
         (λ read out. (length read < 2 ^ 32) × IsServedBy script read true Opens out) }
-    ensures ended_by_history { result ≡ 0 → Ran (S.left source.old) (S.left source.new) (K.taken sink.old) (K.taken sink.new)
+    ensures ended_by_history { result ≡ 0
+        → Ran (S.left source.old) (S.left source.new) (K.taken sink.old) (K.taken sink.new)
         (λ read out. (length read < 2 ^ 32) × IsServedBy by_history read true Opens out) }
     ensures at_end { result ≡ 0 → IsAtEnd (S.left source.new) }
 
     // 3: the source failed. What is due for the whole lines is written, and no first line was refused.
-    ensures source_fault { result ≡ 3 → Ran (S.left source.old) (S.left source.new) (K.taken sink.old) (K.taken sink.new)
+    ensures source_fault { result ≡ 3
+        → Ran (S.left source.old) (S.left source.new) (K.taken sink.old) (K.taken sink.new)
         (λ read out. (length read < 2 ^ 32) × IsUnrefusedBy script read out) }
-    ensures source_fault_by_history { result ≡ 3 → Ran (S.left source.old) (S.left source.new) (K.taken sink.old) (K.taken sink.new)
+    ensures source_fault_by_history { result ≡ 3
+        → Ran (S.left source.old) (S.left source.new) (K.taken sink.old) (K.taken sink.new)
         (λ read out. (length read < 2 ^ 32) × IsUnrefusedBy by_history read out) }
     ensures source_cause { result ≡ 3 → Rose (S.faults source.old) (S.faults source.new) }
 
     // 4: the sink failed. A prefix of what is due is written, and some of it is not.
-    ensures sink_fault { result ≡ 4 → Ran (S.left source.old) (S.left source.new) (K.taken sink.old) (K.taken sink.new)
+    ensures sink_fault { result ≡ 4
+        → Ran (S.left source.old) (S.left source.new) (K.taken sink.old) (K.taken sink.new)
         (λ read out. (length read ≤ 2 ^ 32) × IsCutShort script read true out × (IsCutShort script read false out ⊎ IsAtEnd (S.left source.new))) }
-    ensures sink_fault_by_history { result ≡ 4 → Ran (S.left source.old) (S.left source.new) (K.taken sink.old) (K.taken sink.new)
+    ensures sink_fault_by_history { result ≡ 4
+        → Ran (S.left source.old) (S.left source.new) (K.taken sink.old) (K.taken sink.new)
         (λ read out. (length read ≤ 2 ^ 32) × IsCutShort by_history read true out × (IsCutShort by_history read false out ⊎ IsAtEnd (S.left source.new))) }
     ensures sink_cause { result ≡ 4 → Rose (K.faults sink.old) (K.faults sink.new) }
 
     // 6: the first line that isn't blank is no schema, or the input ended without one. The refusal
     // alone is written, with the first place that is bad.
-    ensures refused { result ≡ 6 → Ran (S.left source.old) (S.left source.new) (K.taken sink.old) (K.taken sink.new)
+    ensures refused { result ≡ 6
+        → Ran (S.left source.old) (S.left source.new) (K.taken sink.old) (K.taken sink.new)
         (λ read out. (length read ≤ 2 ^ 32) × IsRefusedAs script read (S.left source.new) out) }
 
     // 7: there was no memory to begin. Nothing is written.
-    ensures no_memory { result ≡ 7 → Ran (S.left source.old) (S.left source.new) (K.taken sink.old) (K.taken sink.new)
+    ensures no_memory { result ≡ 7
+        → Ran (S.left source.old) (S.left source.new) (K.taken sink.old) (K.taken sink.new)
         (λ read out. (length read ≤ 2 ^ 32) × (out ≡ [])) }
 
     // 8: so many bytes were read. What is due for the whole lines is written, and no first line was refused.
-    ensures limit { result ≡ 8 → Ran (S.left source.old) (S.left source.new) (K.taken sink.old) (K.taken sink.new)
+    ensures limit { result ≡ 8
+        → Ran (S.left source.old) (S.left source.new) (K.taken sink.old) (K.taken sink.new)
         (λ read out. (length read ≡ 2 ^ 32) × IsUnrefusedBy script read out) }
-    ensures limit_by_history { result ≡ 8 → Ran (S.left source.old) (S.left source.new) (K.taken sink.old) (K.taken sink.new)
+    ensures limit_by_history { result ≡ 8
+        → Ran (S.left source.old) (S.left source.new) (K.taken sink.old) (K.taken sink.new)
         (λ read out. (length read ≡ 2 ^ 32) × IsUnrefusedBy by_history read out) }
 
     // With a schema, no fault and fewer bytes than the limit, it is 0, or it is 7 for want of memory.
-    ensures complete { (bytes : List ℕ) → IsScript words.now → S.left source.old ≡ Some bytes → first_of script (lines_of true bytes) ≡ Opens → length bytes < 2 ^ 32
+    ensures complete { (bytes : List ℕ) → IsScript words.now → S.left source.old ≡ Some bytes
+        → first_of script (lines_of true bytes) ≡ Opens → length bytes < 2 ^ 32
         → ¬ Rose (S.faults source.old) (S.faults source.new) → ¬ Rose (K.faults sink.old) (K.faults sink.new) → (result ≡ 0) ⊎ (result ≡ 7) }
 {
     headline();

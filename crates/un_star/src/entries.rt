@@ -59,7 +59,8 @@ fn container(found: &[Assoc], id: u64) -> u64
 }
 
 fn content_ids(alloc: Global, found: &[Assoc], id: u64) -> Result<Vec<u64>, AllocError>
-    ensures { IfOk result (λ ids. ids.items ≡ map (λ a. a.to.feature) (filter (λ a. a.from.feature == id) found.now)) }
+    ensures { IfOk result (λ ids. ids.items
+        ≡ map (λ a. a.to.feature) (filter (λ a. a.from.feature == id) found.now)) }
 {
     found
         .iter()
@@ -85,7 +86,8 @@ fn structure_ids(alloc: Global, found: &[Assoc]) -> Result<Vec<u64>, AllocError>
 
 /// The ids of the structures to which the row is attached, rising.
 fn structures<R: Rows>(alloc: Global, rows: &R, id: u64) -> Result<Ids, AllocError>
-    ensures { IfOk result (λ ids. ids ≡ structures_among (permitted_at (R.features rows.now) is_attachment id) id) }
+    ensures { IfOk result (λ ids. ids
+        ≡ structures_among (permitted_at (R.features rows.now) is_attachment id) id) }
 {
     let found = attachments(alloc, rows, id)?;
     let ids = structure_ids(alloc, found.as_slice())?;
@@ -184,7 +186,8 @@ pub(crate) fn spots_here<R: Rows>(
     meeting: &Meeting,
 ) -> Result<Vec<Spot>, AllocError>
     requires { IsMeeting (R.catalog rows.now) (R.features rows.now) meeting.now }
-    ensures { IfOk result (λ spots. spots.items ≡ spots_here (R.catalog rows.now) (R.features rows.now) meeting.now.at) }
+    ensures { IfOk result (λ spots. spots.items
+        ≡ spots_here (R.catalog rows.now) (R.features rows.now) meeting.now.at) }
 {
     let mut spots = Vec::new(alloc);
     for port in rows.ports_at(meeting.at) {

@@ -63,7 +63,8 @@ fn stacked(joint: &Joint) -> TopoError
 /// The error of an end at the only device or junction, if there is one.
 fn error_of_end(schema: &Schema, meeting: &Meeting, joint: &Joint, end: &End) -> Option<TopoError>
     requires { AreGroups schema.now.rules joint.now meeting.now.ends.items meeting.now.groups.items }
-    ensures { result ≡ option_map (end_error_of end.now) (end_error_kind schema.now.rules joint.now meeting.now.ends.items end.now) }
+    ensures { result ≡ option_map (end_error_of end.now)
+        (end_error_kind schema.now.rules joint.now meeting.now.ends.items end.now) }
 {
     match end_error_kind(schema, meeting, joint, end) {
         Some(kind) => Some(end_error(end, kind)),
@@ -79,7 +80,8 @@ fn joint_errors_here(
     joint: &Joint,
 ) -> Result<Vec<TopoError>, AllocError>
     requires { AreGroups schema.now.rules joint.now meeting.now.ends.items meeting.now.groups.items }
-    ensures { IfOk result (λ errors. errors.items ≡ joint_errors_here schema.now.rules joint.now meeting.now.ends.items) }
+    ensures { IfOk result (λ errors. errors.items
+        ≡ joint_errors_here schema.now.rules joint.now meeting.now.ends.items) }
 {
     let mut errors = Vec::new(alloc);
     for end in &meeting.ends {
@@ -213,7 +215,8 @@ fn add_assoc_errors<R: Rows>(
     p: Point,
     assoc: &Assoc,
 ) -> Result<(), AllocError>
-    ensures { OnOk result (errors.new.items ≡ errors.old.items ++ errors_of_association (R.features rows.now) p assoc.now) }
+    ensures { OnOk result (errors.new.items
+        ≡ errors.old.items ++ errors_of_association (R.features rows.now) p assoc.now) }
 {
     if permitted(rows, assoc) {
         return Ok(());
@@ -230,7 +233,8 @@ fn add_row_errors<R: Rows>(
     p: Point,
     id: u64,
 ) -> Result<(), AllocError>
-    ensures { OnOk result (errors.new.items ≡ errors.old.items ++ association_errors_of (R.features rows.now) p id) }
+    ensures { OnOk result (errors.new.items
+        ≡ errors.old.items ++ association_errors_of (R.features rows.now) p id) }
 {
     let assocs = rows.assocs_of(alloc, id)?;
     for assoc in &assocs {
@@ -246,7 +250,8 @@ fn add_association_errors<R: Rows>(
     rows: &R,
     p: Point,
 ) -> Result<(), AllocError>
-    ensures { OnOk result (errors.new.items ≡ errors.old.items ++ association_errors_here (R.features rows.now) p) }
+    ensures { OnOk result (errors.new.items
+        ≡ errors.old.items ++ association_errors_here (R.features rows.now) p) }
 {
     for port in rows.ports_at(p) {
         add_row_errors(errors, alloc, rows, p, port.feature)?;
@@ -261,7 +266,8 @@ pub(crate) fn errors_here<R: Rows>(
     meeting: &Meeting,
 ) -> Result<Vec<TopoError>, AllocError>
     requires { IsMeeting (R.catalog rows.now) (R.features rows.now) meeting.now }
-    ensures { IfOk result (λ errors. errors.items ≡ errors_here (R.catalog rows.now) (R.features rows.now) meeting.now.at) }
+    ensures { IfOk result (λ errors. errors.items
+        ≡ errors_here (R.catalog rows.now) (R.features rows.now) meeting.now.at) }
 {
     let mut errors = meeting_errors(alloc, rows, meeting)?;
     add_association_errors(&mut errors, alloc, rows, meeting.at)?;

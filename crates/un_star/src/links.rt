@@ -80,7 +80,8 @@ fn segment(node: Node, line: &Row, i: u8) -> Option<Tie>
 /// The path between two terminals of a device, the lower first.
 fn path(node: Node, config: &TermConfig, number: usize, row: &Row, low: u8, high: u8) -> Option<Tie>
     requires { number < length config.now.paths }
-    ensures { option_to_list result ≡ flat_map (ties_by node) (path_link_by config.now number row.now low high) }
+    ensures { option_to_list result
+        ≡ flat_map (ties_by node) (path_link_by config.now number row.now low high) }
 {
     let along = config.flows(number, low, high);
     let against = config.flows(number, high, low);
@@ -111,7 +112,8 @@ fn path_between(
     b: u8,
 ) -> Option<Tie>
     requires { number < length config.now.paths }
-    ensures { option_to_list result ≡ flat_map (ties_by node) (path_between_by config.now number row.now a b) }
+    ensures { option_to_list result
+        ≡ flat_map (ties_by node) (path_between_by config.now number row.now a b) }
 {
     if a < b {
         path(node, config, number, row, a, b)
@@ -123,7 +125,8 @@ fn path_between(
 /// The link between an end and the device or junction at its point.
 fn coin(schema: &Schema, meeting: &Meeting, node: Node, joint: &Joint, end: &End) -> Option<Tie>
     requires { AreGroups schema.now.rules joint.now meeting.now.ends.items meeting.now.groups.items }
-    ensures { option_to_list result ≡ coin_ties_by schema.now.rules node joint.now meeting.now.ends.items end.now }
+    ensures { option_to_list result
+        ≡ coin_ties_by schema.now.rules node joint.now meeting.now.ends.items end.now }
 {
     if !joins(schema, meeting, joint, end) {
         return None;
@@ -162,7 +165,8 @@ fn node_at<R: Rows>(rows: &R, port: Port) -> Option<Node>
 
 /// The link by a permitted connectivity association.
 fn association<R: Rows>(rows: &R, node: Node, assoc: &Assoc) -> Option<Tie>
-    ensures { option_to_list result ≡ flat_map (ties_by node) (association_link (R.features rows.now) assoc.now) }
+    ensures { option_to_list result
+        ≡ flat_map (ties_by node) (association_link (R.features rows.now) assoc.now) }
 {
     if assoc.sort == AssocKind::Connectivity && permitted(rows, assoc) {
         return tie(
@@ -317,7 +321,8 @@ fn add_own_coin<R: Rows>(
     node: Node,
     joint: &Joint,
 ) -> Result<(), AllocError>
-    requires { AreGroups (R.catalog rows.now).rules joint.now meeting.now.ends.items meeting.now.groups.items }
+    requires { AreGroups
+        (R.catalog rows.now).rules joint.now meeting.now.ends.items meeting.now.groups.items }
     ensures { OnOk result (ties.new.items ≡ ties.old.items
         ++ flat_map (coin_ties_by (R.catalog rows.now).rules node joint.now meeting.now.ends.items)
         (option_to_list (end_here (R.catalog rows.now) (R.features rows.now) node.at node.port))) }
@@ -337,7 +342,8 @@ fn add_coins<R: Rows>(
 ) -> Result<(), AllocError>
     requires meeting { IsMeeting (R.catalog rows.now) (R.features rows.now) meeting.now }
     requires here { meeting.now.at ≡ node.at }
-    ensures { OnOk result (ties.new.items ≡ ties.old.items ++ coin_ties (R.catalog rows.now) (R.features rows.now) node) }
+    ensures { OnOk result (ties.new.items
+        ≡ ties.old.items ++ coin_ties (R.catalog rows.now) (R.features rows.now) node) }
 {
     let Some(joint) = only(meeting.joints.as_slice()) else {
         return Ok(());
@@ -361,7 +367,8 @@ pub(crate) fn ties_of<R: Rows>(
     requires meeting { IsMeeting (R.catalog rows.now) (R.features rows.now) meeting.now }
     requires here { meeting.now.at ≡ node.at }
     requires row { row_of (R.features rows.now) node.port.feature ≡ Some row.now }
-    ensures { IfOk result (λ ties. ties ≡ rising tie_cmp (node_ties (R.catalog rows.now) (R.features rows.now) node row.now)) }
+    ensures { IfOk result (λ ties. ties
+        ≡ rising tie_cmp (node_ties (R.catalog rows.now) (R.features rows.now) node row.now)) }
 {
     let mut ties = Vec::new(alloc);
     add_segments(&mut ties, node, row)?;

@@ -187,7 +187,8 @@ fn note(groups: &mut Vec<Group>, kind: u16, terminal: u8, port: Port) -> Result<
 
 /// Takes an end into the groups, if its terminal is there.
 fn take_in(groups: &mut Vec<Group>, joint: &Joint, end: &End) -> Result<(), AllocError>
-    ensures { OnOk result ((rules : List Rule) → TakesIn rules joint.now end.now groups.old.items groups.new.items) }
+    ensures { OnOk result ((rules : List Rule)
+        → TakesIn rules joint.now end.now groups.old.items groups.new.items) }
 {
     if !has_chosen(joint, end) {
         return Ok(());

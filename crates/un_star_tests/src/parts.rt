@@ -129,7 +129,8 @@ pub(crate) fn paired(alloc: Global, rows: &[Row], pairs: &[Pair]) -> Result<Vec<
 /// Whether the row of the controller, if there is one, has terminals.
 pub(crate) fn may_control(rows: &[Row], controller: &Option<Controller>) -> bool
     requires { IsNumbered row_id rows.now }
-    ensures { result ≡ true → All (λ c. IsLiveJoint (only rows.now) c.port.feature) (option_to_list controller.now) }
+    ensures { result ≡ true
+        → All (λ c. IsLiveJoint (only rows.now) c.port.feature) (option_to_list controller.now) }
 {
     match controller {
         Some(controller) => is_live_joint(rows, controller.port.feature),

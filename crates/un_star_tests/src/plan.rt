@@ -83,7 +83,8 @@ fn shape_of(alloc: Global, class: Class, points: &[[i64; 3]]) -> Result<Shape, N
 fn configured(schema: &Schema, kind: u16) -> (u8, Option<usize>)
     ensures terminals { result.0 ≡ option_map_or (λ c. c.config.terminals) (config_of schema.now kind) 1 }
     ensures some { 1 ≤ result.0 }
-    ensures path { IfSome result.1 (λ path. IsSomeAnd (config_of schema.now kind) (λ c. IsSome (slice_get c.config.paths path))) }
+    ensures path { IfSome result.1
+        (λ path. IsSomeAnd (config_of schema.now kind) (λ c. IsSome (slice_get c.config.paths path))) }
 {
     match schema.config(kind) {
         Some(config) => (config.terminals(), Some(0)),

@@ -82,7 +82,8 @@ pub(crate) fn shape_of(alloc: Global, class: Class, points: &Triples) -> Result<
 pub(crate) fn attrs_of(alloc: Global, schema: &Schema, attrs: &NamedAttrs) -> Result<Attrs, Refusal>
     ensures attrs { IfOk result (λ given. given ≡ numbered schema.now attrs.now) }
     ensures good { OnOk result (bad_attribute schema.now attrs.now ≡ None) }
-    ensures bad { IfErr result (λ refusal. refusal ≢ Memory → bad_attribute schema.now attrs.now ≡ Some refusal) }
+    ensures bad { IfErr result (λ refusal. refusal ≢ Memory
+        → bad_attribute schema.now attrs.now ≡ Some refusal) }
 {
     let named = attrs.as_slice();
     let pairs = numbers_of(alloc, schema, named)?;
@@ -95,7 +96,8 @@ pub(crate) fn attrs_of(alloc: Global, schema: &Schema, attrs: &NamedAttrs) -> Re
 // The refusal of the attribute at a place.
 fn bad_at(alloc: Global, named: &[(Name, i64)], place: usize) -> Refusal
     requires { place < length named.now }
-    ensures { result ≢ Memory → option_map (λ pair. Refusal.BadAttribute pair.0) (slice_get named.now place) ≡ Some result }
+    ensures { result ≢ Memory
+        → option_map (λ pair. Refusal.BadAttribute pair.0) (slice_get named.now place) ≡ Some result }
 {
     match named[place].0.copy(alloc) {
         Ok(attribute) => Refusal::BadAttribute { attribute },

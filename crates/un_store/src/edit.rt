@@ -29,7 +29,8 @@ impl Store {
         requires fitting { All (FitsKind schema.now) self.now }
         ensures rows { IfOk result (λ store. store ≡ rows_after schema.now next moment self.now edit.now) }
         ensures good { OnOk result (refusal_of schema.now self.now edit.now ≡ None) }
-        ensures bad { IfErr result (λ refusal. refusal ≢ Memory → refusal_of schema.now self.now edit.now ≡ Some refusal) }
+        ensures bad { IfErr result (λ refusal. refusal ≢ Memory
+            → refusal_of schema.now self.now edit.now ≡ Some refusal) }
     {
         // For the proof alone.
         let _rules = schema.rules();

@@ -30,7 +30,8 @@ impl Store {
         requires fitting { All (FitsKind schema.now) self.now }
         ensures rows { IfOk result (λ store. store ≡ rows_after schema.now next moment self.now edit.now) }
         ensures good { OnOk result (refusal_of schema.now self.now edit.now ≡ None) }
-        ensures bad { IfErr result (λ refusal. refusal ≢ Memory → refusal_of schema.now self.now edit.now ≡ Some refusal) }
+        ensures bad { IfErr result (λ refusal. refusal ≢ Memory
+            → refusal_of schema.now self.now edit.now ≡ Some refusal) }
         ensures fits { OnOk result (Fits schema.now next moment self.now edit.now) }
     {
         let Edit::Reshape { id, base, points } = edit else {
@@ -57,7 +58,8 @@ impl Store {
         requires word { IsAttrs edit.now }
         ensures rows { IfOk result (λ store. store ≡ rows_after schema.now next moment self.now edit.now) }
         ensures good { OnOk result (refusal_of schema.now self.now edit.now ≡ None) }
-        ensures bad { IfErr result (λ refusal. refusal ≢ Memory → refusal_of schema.now self.now edit.now ≡ Some refusal) }
+        ensures bad { IfErr result (λ refusal. refusal ≢ Memory
+            → refusal_of schema.now self.now edit.now ≡ Some refusal) }
     {
         let Edit::Attrs { id, base, attrs } = edit else {
             unreachable!()
@@ -85,7 +87,8 @@ impl Store {
         requires fitting { All (FitsKind schema.now) self.now }
         ensures rows { IfOk result (λ store. store ≡ rows_after schema.now next moment self.now edit.now) }
         ensures good { OnOk result (refusal_of schema.now self.now edit.now ≡ None) }
-        ensures bad { IfErr result (λ refusal. refusal ≢ Memory → refusal_of schema.now self.now edit.now ≡ Some refusal) }
+        ensures bad { IfErr result (λ refusal. refusal ≢ Memory
+            → refusal_of schema.now self.now edit.now ≡ Some refusal) }
         ensures fits { OnOk result (Fits schema.now next moment self.now edit.now) }
     {
         let Edit::Kind { id, base, kind } = edit else {
@@ -120,7 +123,8 @@ impl Store {
         requires paths { HasPaths schema.now }
         ensures rows { IfOk result (λ store. store ≡ rows_after schema.now next moment self.now edit.now) }
         ensures good { OnOk result (refusal_of schema.now self.now edit.now ≡ None) }
-        ensures bad { IfErr result (λ refusal. refusal ≢ Memory → refusal_of schema.now self.now edit.now ≡ Some refusal) }
+        ensures bad { IfErr result (λ refusal. refusal ≢ Memory
+            → refusal_of schema.now self.now edit.now ≡ Some refusal) }
         ensures fits { OnOk result (Fits schema.now next moment self.now edit.now) }
     {
         let Edit::Path { id, base, path } = edit else {
@@ -148,7 +152,8 @@ impl Store {
         requires word { IsFlow edit.now }
         ensures rows { IfOk result (λ store. store ≡ rows_after schema.now next moment self.now edit.now) }
         ensures good { OnOk result (refusal_of schema.now self.now edit.now ≡ None) }
-        ensures bad { IfErr result (λ refusal. refusal ≢ Memory → refusal_of schema.now self.now edit.now ≡ Some refusal) }
+        ensures bad { IfErr result (λ refusal. refusal ≢ Memory
+            → refusal_of schema.now self.now edit.now ≡ Some refusal) }
     {
         let Edit::Flow { id, base, flow } = edit else {
             unreachable!()
@@ -175,7 +180,8 @@ impl Store {
         requires word { IsEnds edit.now }
         ensures rows { IfOk result (λ store. store ≡ rows_after schema.now next moment self.now edit.now) }
         ensures good { OnOk result (refusal_of schema.now self.now edit.now ≡ None) }
-        ensures bad { IfErr result (λ refusal. refusal ≢ Memory → refusal_of schema.now self.now edit.now ≡ Some refusal) }
+        ensures bad { IfErr result (λ refusal. refusal ≢ Memory
+            → refusal_of schema.now self.now edit.now ≡ Some refusal) }
     {
         let Edit::Ends { id, base, ends } = edit else {
             unreachable!()
@@ -203,7 +209,8 @@ impl Store {
         requires word { IsNote edit.now }
         ensures rows { IfOk result (λ store. store ≡ rows_after schema.now next moment self.now edit.now) }
         ensures good { OnOk result (refusal_of schema.now self.now edit.now ≡ None) }
-        ensures bad { IfErr result (λ refusal. refusal ≢ Memory → refusal_of schema.now self.now edit.now ≡ Some refusal) }
+        ensures bad { IfErr result (λ refusal. refusal ≢ Memory
+            → refusal_of schema.now self.now edit.now ≡ Some refusal) }
     {
         let Edit::Note { id, base, note } = edit else {
             unreachable!()
@@ -230,7 +237,8 @@ impl Store {
         requires word { IsDelete edit.now }
         ensures rows { IfOk result (λ store. store ≡ rows_after schema.now next moment self.now edit.now) }
         ensures good { OnOk result (refusal_of schema.now self.now edit.now ≡ None) }
-        ensures bad { IfErr result (λ refusal. refusal ≢ Memory → refusal_of schema.now self.now edit.now ≡ Some refusal) }
+        ensures bad { IfErr result (λ refusal. refusal ≢ Memory
+            → refusal_of schema.now self.now edit.now ≡ Some refusal) }
     {
         let Edit::Delete { id, base } = edit else {
             unreachable!()

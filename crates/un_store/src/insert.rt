@@ -30,7 +30,8 @@ impl Store {
         requires next { All (λ r. r.id < next) self.now }
         ensures rows { IfOk result (λ store. store ≡ rows_after schema.now next moment self.now edit.now) }
         ensures good { OnOk result (refusal_of schema.now self.now edit.now ≡ None) }
-        ensures bad { IfErr result (λ refusal. refusal ≢ Memory → refusal_of schema.now self.now edit.now ≡ Some refusal) }
+        ensures bad { IfErr result (λ refusal. refusal ≢ Memory
+            → refusal_of schema.now self.now edit.now ≡ Some refusal) }
         ensures fits { OnOk result (Fits schema.now next moment self.now edit.now) }
     {
         let Edit::Insert {

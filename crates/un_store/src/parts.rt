@@ -15,7 +15,8 @@ pub(crate) fn configured(schema: &Schema, kind: u16) -> (u8, Option<usize>)
     ensures terminals { result.0 ≡ option_map_or (λ c. c.config.terminals) (config_of schema.now kind) 1 }
     ensures some { 1 ≤ result.0 }
     ensures path { result.1 ≡ first_path schema.now kind }
-    ensures exists { IfSome result.1 (λ path. IsSomeAnd (config_of schema.now kind) (λ c. IsSome (slice_get c.config.paths path))) }
+    ensures exists { IfSome result.1
+        (λ path. IsSomeAnd (config_of schema.now kind) (λ c. IsSome (slice_get c.config.paths path))) }
 {
     match schema.config(kind) {
         Some(config) => (config.terminals(), Some(0)),

@@ -26,8 +26,10 @@ fn own_barrier<N: Names>(
     raw: &Option<RawCond>,
     names: &N,
 ) -> Result<Option<Cond>, CondFault>
-    ensures ok { IfOk result (λ barrier. barrier ≡ barrier_from (N.attributes names.now) (N.categories names.now) (written_barrier raw.now)) }
-    ensures good { OnOk result (resolves (N.attributes names.now) (N.categories names.now) (written_barrier raw.now) ≡ true) }
+    ensures ok { IfOk result (λ barrier. barrier
+        ≡ barrier_from (N.attributes names.now) (N.categories names.now) (written_barrier raw.now)) }
+    ensures good { OnOk result
+        (resolves (N.attributes names.now) (N.categories names.now) (written_barrier raw.now) ≡ true) }
     ensures bad { IsErrOf result CondFault.BadCondition
         → resolves (N.attributes names.now) (N.categories names.now) (written_barrier raw.now) ≡ false }
 {
@@ -54,8 +56,11 @@ pub(crate) fn own_tier<N: Names>(
     before: &[Tier],
     names: &N,
 ) -> Result<Tier, TierFault>
-    ensures ok { IfOk result (λ tier. tier ≡ tier_from (N.attributes names.now) (N.categories names.now) (written_tier raw.now)) }
-    ensures good { OnOk result (is_good (N.attributes names.now) (N.categories names.now) before.now (written_tier raw.now) ≡ true) }
+    ensures ok { IfOk result (λ tier. tier
+        ≡ tier_from (N.attributes names.now) (N.categories names.now) (written_tier raw.now)) }
+    ensures good { OnOk result
+        (is_good (N.attributes names.now) (N.categories names.now) before.now (written_tier raw.now)
+        ≡ true) }
     ensures bad { IfErr result (λ fault. OnBadTier fault (λ place.
         (place ≡ length before.now) × (is_good (N.attributes names.now) (N.categories names.now) before.now (written_tier raw.now) ≡ false))) }
 {

@@ -41,8 +41,12 @@ impl Tiers {
     /// `BadTier` names the first whose name has not the form of a name or stands before, or whose condition is refused. Where all of
     /// the first 16 are taken and there are more, it names place 16.
     pub fn new<N: Names>(alloc: Global, raw: &[RawTier], names: &N) -> Result<Tiers, TierFault>
-        ensures ok { IfOk result (λ tiers. tiers ≡ map (tier_from (N.attributes names.now) (N.categories names.now)) (map written_tier raw.now)) }
-        ensures good { OnOk result (first_bad (N.attributes names.now) (N.categories names.now) [] (map written_tier raw.now) ≡ None) }
+        ensures ok { IfOk result (λ tiers. tiers
+            ≡ map (tier_from (N.attributes names.now) (N.categories names.now))
+            (map written_tier raw.now)) }
+        ensures good { OnOk result
+            (first_bad (N.attributes names.now) (N.categories names.now) [] (map written_tier raw.now)
+            ≡ None) }
         ensures bad { IfErr result (λ fault. OnBadTier fault
             (λ place. first_bad (N.attributes names.now) (N.categories names.now) [] (map written_tier raw.now) ≡ Some place)) }
     {

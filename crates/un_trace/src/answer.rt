@@ -119,7 +119,8 @@ fn controllers_reply<G: Ground, L>(
     steps: &mut Steps<L>,
 ) -> Result<Reply, AllocError>
     requires { IsSome ask.now.barriers.tier }
-    ensures reply { IfOk result (λ r. r ≡ controllers_reply (G.stars_and_areas over.now) ask.now reached.now) }
+    ensures reply { IfOk result (λ r. r
+        ≡ controllers_reply (G.stars_and_areas over.now) ask.now reached.now) }
     ensures ticks { OnOk result (steps.new ≡ steps.old + length reached.now) }
     ensures never_falls { steps.old ≤ steps.new }
 {
