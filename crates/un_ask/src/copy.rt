@@ -14,10 +14,7 @@ use un_schema::Name;
 mod lists;
 mod refusal;
 
-use lists::{
-    copy_areas, copy_attrs, copy_controllers, copy_errors, copy_ids, copy_parts, copy_points,
-    copy_ports, copy_segments, copy_totals,
-};
+use lists::{copy_attrs, copy_controllers, copy_parts};
 use refusal::copy_refusal;
 
 impl Reply {
@@ -97,7 +94,7 @@ fn copy_command_reply(alloc: Global, reply: &Reply) -> Result<Reply, AllocError>
             version,
         } => Ok(Reply::Batch {
             areas: *areas,
-            ids: copy_ids(alloc, ids)?,
+            ids: ids.copy(alloc)?,
             version: *version,
         }),
         Reply::Updated { row, version } => Ok(Reply::Updated {
@@ -128,11 +125,11 @@ fn copy_query_reply(alloc: Global, reply: &Reply) -> Result<Reply, AllocError>
             version: *version,
         }),
         Reply::Dirty { areas, version } => Ok(Reply::Dirty {
-            areas: copy_areas(alloc, areas)?,
+            areas: areas.copy(alloc)?,
             version: *version,
         }),
         Reply::Errors { errors, version } => Ok(Reply::Errors {
-            errors: copy_errors(alloc, errors)?,
+            errors: errors.copy(alloc)?,
             version: *version,
         }),
         Reply::Subnet {
@@ -144,8 +141,8 @@ fn copy_query_reply(alloc: Global, reply: &Reply) -> Result<Reply, AllocError>
             updated,
             version,
         } => Ok(Reply::Subnet {
-            controllers: copy_ports(alloc, controllers)?,
-            members: copy_ids(alloc, members)?,
+            controllers: controllers.copy(alloc)?,
+            members: members.copy(alloc)?,
             status: *status,
             subnet: subnet.copy(alloc)?,
             tier: tier.copy(alloc)?,
@@ -177,7 +174,7 @@ fn copy_trace_reply(alloc: Global, reply: &Reply) -> Result<Reply, AllocError>
             version: *version,
         }),
         Reply::Loops { segments, version } => Ok(Reply::Loops {
-            segments: copy_segments(alloc, segments)?,
+            segments: segments.copy(alloc)?,
             version: *version,
         }),
         Reply::Isolation {
@@ -185,7 +182,7 @@ fn copy_trace_reply(alloc: Global, reply: &Reply) -> Result<Reply, AllocError>
             features,
             version,
         } => Ok(Reply::Isolation {
-            borders: copy_ports(alloc, borders)?,
+            borders: borders.copy(alloc)?,
             features: copy_parts(alloc, features)?,
             version: *version,
         }),
@@ -201,9 +198,9 @@ fn copy_row(alloc: Global, row: &Option<StoredSubnet>) -> Result<Option<StoredSu
         Some(row) => Ok(Some(StoredSubnet {
             tier: row.tier,
             subnet: row.subnet.copy(alloc)?,
-            controllers: copy_ports(alloc, &row.controllers)?,
-            members: copy_ids(alloc, &row.members)?,
-            points: copy_points(alloc, &row.points)?,
+            controllers: row.controllers.copy(alloc)?,
+            members: row.members.copy(alloc)?,
+            points: row.points.copy(alloc)?,
             updated: row.updated,
             status: row.status,
         })),
@@ -224,7 +221,7 @@ fn copy_feature(alloc: Global, feature: &FeatureReply) -> Result<FeatureReply, A
         kind: feature.kind.copy(alloc)?,
         note: feature.note.copy(alloc)?,
         path: copy_path(alloc, &feature.path)?,
-        points: copy_points(alloc, &feature.points)?,
+        points: feature.points.copy(alloc)?,
     })
 }
 
@@ -243,11 +240,11 @@ fn copy_result(alloc: Global, traced: &ResultReply) -> Result<ResultReply, Alloc
     ensures { IfOk result (λ copy. copy ≡ traced.now) }
 {
     Ok(ResultReply {
-        containers: copy_ids(alloc, &traced.containers)?,
-        content: copy_ids(alloc, &traced.content)?,
+        containers: traced.containers.copy(alloc)?,
+        content: traced.content.copy(alloc)?,
         features: copy_parts(alloc, &traced.features)?,
-        functions: copy_totals(alloc, &traced.functions)?,
+        functions: traced.functions.copy(alloc)?,
         kind: traced.kind,
-        structures: copy_ids(alloc, &traced.structures)?,
+        structures: traced.structures.copy(alloc)?,
     })
 }

@@ -5,7 +5,7 @@ ghost use Rattle.un_ask.specs.Words.{trace_text};
 use std::marker::Model;
 use un_conds::RawCond;
 use un_defs::port::Ports;
-use un_schema::Name;
+use un_schema::{Items, Name};
 
 /// What a trace looks for.
 #[derive(Clone, Copy, Debug, PartialEq, Eq, PartialOrd, Ord, Hash)]
@@ -91,37 +91,7 @@ pub enum NamedFunc {
 }
 
 /// A list of functions with attributes by name.
-#[derive(Drop)]
-pub struct NamedFuncs {
-    items: Vec<NamedFunc>,
-}
-
-impl Model for NamedFuncs {
-    ghost use Rattle.std.specs.Prelude.{List};
-    ghost use Rattle.un_ask.specs.declared.trace.NamedFunc.{NamedFunc};
-
-    ghost Value = { List NamedFunc };
-
-    ghost view = { λ l. l.items.items };
-}
-
-impl NamedFuncs {
-    ghost use Rattle.std.specs.Prelude.{◌≡◌};
-
-    /// The list of these functions, in this order. It takes no memory.
-    pub fn new(items: Vec<NamedFunc>) -> NamedFuncs
-        ensures { result ≡ items.items }
-    {
-        NamedFuncs { items }
-    }
-
-    /// Its elements, in order.
-    pub fn as_slice(&self) -> &[NamedFunc]
-        ensures { result.now ≡ self.now }
-    {
-        self.items.as_slice()
-    }
-}
+pub type NamedFuncs = Items<NamedFunc>;
 
 /// A condition as a request gives it. Contracts see what it says, and not where its parts lie.
 #[derive(Drop)]

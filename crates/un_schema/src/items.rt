@@ -1,8 +1,9 @@
-ghost use Rattle.std.specs.Prelude.{◌≡◌};
+ghost use Rattle.std.specs.Prelude.{◌≡◌, IfOk};
 
+use std::alloc::{AllocError, Global};
 use std::marker::Model;
 
-/// A list of parts of a schema as it is given. Contracts see the list.
+/// A list. Contracts see its elements.
 #[derive(Drop)]
 pub struct Items<T> {
     items: Vec<T>,
@@ -17,17 +18,34 @@ impl<T> Model for Items<T> {
 }
 
 impl<T> Items<T> {
-    /// The list of these parts, in this order. It takes no memory.
+    /// The list of these elements, in this order. It takes no memory.
     pub fn new(items: Vec<T>) -> Items<T>
         ensures { result ≡ items.items }
     {
         Items { items }
     }
 
-    /// Its parts, in order.
+    /// Its elements, in order.
     pub fn as_slice(&self) -> &[T]
         ensures { result.now ≡ self.now }
     {
         self.items.as_slice()
+    }
+
+    /// Gives the list back. It takes no memory.
+    pub fn into_vec(self) -> Vec<T>
+        ensures { result.items ≡ self }
+    {
+        let Items { items } = self;
+        items
+    }
+}
+
+impl<T: Copy> Items<T> {
+    /// An equal list of its own.
+    pub fn copy(&self, alloc: Global) -> Result<Items<T>, AllocError>
+        ensures { IfOk result (λ copy. copy ≡ self.now) }
+    {
+        Ok(Items::new(self.as_slice().iter().copied().collect(alloc)?))
     }
 }

@@ -1,11 +1,9 @@
 //! Copies of the lists that replies hold.
 ghost use Rattle.std.specs.Prelude.{◌≡◌, IfOk};
 
-use crate::areas::{Areas, PlacedErrors, Points};
-use crate::results::{Controllers, Numbers, Part, Parts, Segments, Totals};
+use crate::results::{Controllers, Part, Parts};
 use std::alloc::{AllocError, Global};
-use un_defs::port::Ports;
-use un_defs::{Controller, Ids, NamedAttrs};
+use un_defs::{Controller, NamedAttrs};
 use un_schema::Name;
 
 /// An element that owns memory.
@@ -35,7 +33,7 @@ impl Element for Part {
     fn copy(&self, alloc: Global) -> Result<Part, AllocError> {
         Ok(Part {
             feature: self.feature,
-            numbers: Numbers::new(self.numbers.as_slice().to_vec(alloc)?),
+            numbers: self.numbers.copy(alloc)?,
         })
     }
 }
@@ -49,55 +47,6 @@ fn copy_each<T: Element>(alloc: Global, items: &[T]) -> Result<Vec<T>, AllocErro
         copies.push(item.copy(alloc)?)?;
     }
     Ok(copies)
-}
-
-/// These ids, in a list of its own.
-pub(super) fn copy_ids(alloc: Global, ids: &Ids) -> Result<Ids, AllocError>
-    ensures { IfOk result (λ copy. copy ≡ ids.now) }
-{
-    Ok(Ids::new(ids.as_slice().to_vec(alloc)?))
-}
-
-/// These ports, in a list of its own.
-pub(super) fn copy_ports(alloc: Global, ports: &Ports) -> Result<Ports, AllocError>
-    ensures { IfOk result (λ copy. copy ≡ ports.now) }
-{
-    Ok(Ports::new(ports.as_slice().to_vec(alloc)?))
-}
-
-/// These dirty areas, in a list of its own.
-pub(super) fn copy_areas(alloc: Global, areas: &Areas) -> Result<Areas, AllocError>
-    ensures { IfOk result (λ copy. copy ≡ areas.now) }
-{
-    Ok(Areas::new(areas.as_slice().to_vec(alloc)?))
-}
-
-/// These errors with their points, in a list of its own.
-pub(super) fn copy_errors(alloc: Global, errors: &PlacedErrors) -> Result<PlacedErrors, AllocError>
-    ensures { IfOk result (λ copy. copy ≡ errors.now) }
-{
-    Ok(PlacedErrors::new(errors.as_slice().to_vec(alloc)?))
-}
-
-/// These points, in a list of its own.
-pub(super) fn copy_points(alloc: Global, points: &Points) -> Result<Points, AllocError>
-    ensures { IfOk result (λ copy. copy ≡ points.now) }
-{
-    Ok(Points::new(points.as_slice().to_vec(alloc)?))
-}
-
-/// These segments, in a list of its own.
-pub(super) fn copy_segments(alloc: Global, segments: &Segments) -> Result<Segments, AllocError>
-    ensures { IfOk result (λ copy. copy ≡ segments.now) }
-{
-    Ok(Segments::new(segments.as_slice().to_vec(alloc)?))
-}
-
-/// These values of functions, in a list of its own.
-pub(super) fn copy_totals(alloc: Global, totals: &Totals) -> Result<Totals, AllocError>
-    ensures { IfOk result (λ copy. copy ≡ totals.now) }
-{
-    Ok(Totals::new(totals.as_slice().to_vec(alloc)?))
 }
 
 /// These attributes with their names, in a list of its own.
