@@ -1,8 +1,7 @@
 //! The entries of the ports at a point.
 
-ghost use Rattle.std.specs.Prelude.{◌≡◌, ◌==◌, ◌<◌, ◌++◌, Some, IfOk, OnOk, length, map, filter, find, option_to_list};
+ghost use Rattle.std.specs.Prelude.{◌≡◌, ◌==◌, ◌++◌, Some, IfOk, OnOk, map, filter, find, option_to_list};
 ghost use Rattle.std.specs.Option.{option_map, option_copied};
-ghost use Rattle.un_schema.specs.Catalog.{cats_of};
 ghost use Rattle.un_defs.specs.Features.{row as row_of};
 ghost use Rattle.un_defs.specs.Star.{controller_at, is_containment, is_attachment};
 ghost use Rattle.un_star.specs.Meet.{IsMeeting};
@@ -12,10 +11,8 @@ use crate::links::ties_of;
 use crate::meet::Meeting;
 use crate::permit::permitted;
 use std::alloc::{AllocError, Global};
-use un_attrs::Cats;
 use un_defs::order::rising;
 use un_defs::{Assoc, AssocKind, Controller, Ids, Node, Port, Row, Rows, Spot};
-use un_schema::Schema;
 
 /// The permitted associations by which the row contains or is contained.
 fn containments<R: Rows>(alloc: Global, rows: &R, id: u64) -> Result<Vec<Assoc>, AllocError>
@@ -116,14 +113,6 @@ fn controller<R: Rows>(
     }
 }
 
-/// The categories of a kind.
-fn cats(schema: &Schema, kind: u16) -> Cats
-    requires { kind < length schema.now.kinds }
-    ensures { result ≡ cats_of schema.now kind }
-{
-    schema.kind_at(kind).cats
-}
-
 /// The entry of a port of a row.
 fn spot<R: Rows>(
     alloc: Global,
@@ -150,7 +139,7 @@ fn spot<R: Rows>(
         port,
         kind: row.kind,
         class: row.class,
-        cats: cats(rows.schema(), row.kind),
+        cats: rows.schema().cats(row.kind),
         attrs: row.attrs.copy(),
         ties,
         controller,

@@ -1,7 +1,6 @@
 //! Any edit of rows.
 ghost use Rattle.std.specs.Prelude.{◌≡◌, ◌≢◌, ◌<◌, All, Some, None, IfOk, OnOk, IfErr};
 ghost use Rattle.un_defs.specs.declared.refusal.Refusal.TheVariants.{Memory};
-ghost use Rattle.un_defs.specs.Sound.{FitsKind};
 ghost use Rattle.un_store.specs.Words.{IsRowEdit};
 ghost use Rattle.un_store.specs.Refusals.{refusal_of};
 ghost use Rattle.un_store.specs.Edits.{rows_after};
@@ -26,14 +25,11 @@ impl Store {
     ) -> Result<Store, Refusal>
         requires word { IsRowEdit edit.now }
         requires next { All (λ r. r.id < next) self.now }
-        requires fitting { All (FitsKind schema.now) self.now }
         ensures rows { IfOk result (λ store. store ≡ rows_after schema.now next moment self.now edit.now) }
         ensures good { OnOk result (refusal_of schema.now self.now edit.now ≡ None) }
         ensures bad { IfErr result (λ refusal. refusal ≢ Memory
             → refusal_of schema.now self.now edit.now ≡ Some refusal) }
     {
-        // For the proof alone.
-        let _rules = schema.rules();
         match edit {
             Edit::Insert { .. } => self.insert(alloc, edit, schema, next, moment),
             Edit::Reshape { .. } => self.reshape(alloc, edit, schema, next, moment),

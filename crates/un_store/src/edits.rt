@@ -5,7 +5,7 @@ ghost use Rattle.un_defs.specs.Sound.{FitsKind};
 ghost use Rattle.un_store.specs.Words.{IsReshape, IsAttrs, IsKind, IsPath, IsFlow, IsEnds, IsNote, IsDelete};
 ghost use Rattle.un_store.specs.Refusals.{refusal_of};
 ghost use Rattle.un_defs.specs.Change.{change_row};
-ghost use Rattle.un_store.specs.Edits.{rows_after, only_rows, at_moment, Fits, HasPaths, settled};
+ghost use Rattle.un_store.specs.Edits.{rows_after, only_rows, at_moment, Fits, settled};
 
 use crate::checks::{attrs_of, check_class, check_line, kind_number, path_of, shape_of};
 use crate::parts::{configured, copied, reshaped, terminals_by_class};
@@ -27,12 +27,12 @@ impl Store {
         moment: u64,
     ) -> Result<Store, Refusal>
         requires word { IsReshape edit.now }
-        requires fitting { All (FitsKind schema.now) self.now }
         ensures rows { IfOk result (λ store. store ≡ rows_after schema.now next moment self.now edit.now) }
         ensures good { OnOk result (refusal_of schema.now self.now edit.now ≡ None) }
         ensures bad { IfErr result (λ refusal. refusal ≢ Memory
             → refusal_of schema.now self.now edit.now ≡ Some refusal) }
-        ensures fits { OnOk result (Fits schema.now next moment self.now edit.now) }
+        ensures fits { OnOk result (All (FitsKind schema.now) self.now
+            → Fits schema.now next moment self.now edit.now) }
     {
         let Edit::Reshape { id, base, points } = edit else {
             unreachable!()
@@ -84,12 +84,12 @@ impl Store {
         moment: u64,
     ) -> Result<Store, Refusal>
         requires word { IsKind edit.now }
-        requires fitting { All (FitsKind schema.now) self.now }
         ensures rows { IfOk result (λ store. store ≡ rows_after schema.now next moment self.now edit.now) }
         ensures good { OnOk result (refusal_of schema.now self.now edit.now ≡ None) }
         ensures bad { IfErr result (λ refusal. refusal ≢ Memory
             → refusal_of schema.now self.now edit.now ≡ Some refusal) }
-        ensures fits { OnOk result (Fits schema.now next moment self.now edit.now) }
+        ensures fits { OnOk result (All (FitsKind schema.now) self.now
+            → Fits schema.now next moment self.now edit.now) }
     {
         let Edit::Kind { id, base, kind } = edit else {
             unreachable!()
@@ -119,17 +119,18 @@ impl Store {
         moment: u64,
     ) -> Result<Store, Refusal>
         requires word { IsPath edit.now }
-        requires fitting { All (FitsKind schema.now) self.now }
-        requires paths { HasPaths schema.now }
         ensures rows { IfOk result (λ store. store ≡ rows_after schema.now next moment self.now edit.now) }
         ensures good { OnOk result (refusal_of schema.now self.now edit.now ≡ None) }
         ensures bad { IfErr result (λ refusal. refusal ≢ Memory
             → refusal_of schema.now self.now edit.now ≡ Some refusal) }
-        ensures fits { OnOk result (Fits schema.now next moment self.now edit.now) }
+        ensures fits { OnOk result (All (FitsKind schema.now) self.now
+            → Fits schema.now next moment self.now edit.now) }
     {
         let Edit::Path { id, base, path } = edit else {
             unreachable!()
         };
+        // For the proof alone.
+        let _rules = schema.rules();
         let row = self.found(*id, *base)?;
         let path = path_of(schema, row, path)?;
         let mut new = copied(alloc, row)?;
