@@ -12,6 +12,6 @@ reach_unique step starts xs ys a b =
     (λ n h. among_from_contains ys n ((b.exact n).1 ((a.exact n).0 (contains_from_among xs n h))))
     (λ n h. among_from_contains xs n ((a.exact n).1 ((b.exact n).0 (contains_from_among ys n h))))
 
-pub on_ok_map : {T E : Type 0} (r : Result T E) (P Q : Type 0) → (P → Q) → OnOk r P → OnOk r Q
-on_ok_map (Ok x) P Q f h = f h
-on_ok_map (Err e) P Q f h = h
+pub on_ok_any : {T E : Type 0} (r : Result T E) {P : Type 0} → P → OnOk r P
+on_ok_any (Ok x) h = h
+on_ok_any (Err e) h = tt

@@ -10,8 +10,8 @@
 //!
 //! # How it is found
 //!
-//! [`answer::loops`] asks `un_walk` for the reached nodes, which come sorted, and for the dirt. Where there is no dirt it keeps the nodes that
-//! are no barrier, with their entries ([`nodes::open_nodes`]); from here on a node is a number, its place in that list, and a binary search
+//! [`answer::loops`] asks `un_walk` for the reached nodes with their entries, which come sorted, and for the dirt. Where there is no dirt it
+//! keeps the nodes that are no barrier ([`nodes::open_nodes`]); from here on a node is a number, its place in that list, and a binary search
 //! turns a node into its number. The links between these nodes go into a map by name ([`network::links_between`]). Each stands at both its ends
 //! and is taken from the earlier one. The map gives the names in order, those of segments first. What is left is a graph, with nodes from 0 and
 //! a list of links, and the question which of these lie on a cycle ([`cycles::on_cycles`]). The answer is the names of segments among them
@@ -48,8 +48,7 @@
 //!
 //! # What it costs
 //!
-//! Beside the walk, at most one look-up of a star for each reached node, and for each link between open nodes one binary search and one step in
-//! an ordered map. The forest looks at each link twice. Each step of a climb marks a parent link, so there are at most as many steps as nodes,
+//! Beside the walk, for each link between open nodes one binary search and one step in an ordered map. The forest looks at each link twice. Each step of a climb marks a parent link, so there are at most as many steps as nodes,
 //! and each step and each link asks for a head or two. So the whole takes in the order of (V + E) log V at most.
 #![tactic(auto)]
 

@@ -162,6 +162,12 @@ fn a_first_line_is_a_schema(rt: HostRuntime) -> Result<(), Fail> {
             b"{\"error\":6,\"name\":\"BadSchema\",\"place\":\"schema\"}\n"
         )?
     );
+    Ok(())
+}
+
+#[test]
+fn a_schema_has_its_members_alone(rt: HostRuntime) -> Result<(), Fail> {
+    let alloc = rt.alloc();
     assert!(rt;
         gives(
             alloc,

@@ -13,7 +13,7 @@ use Rattle.un_defs.specs.declared.star.Spot.{Spot}
 use Rattle.un_defs.specs.Orders.{rising}
 use Rattle.un_defs.proofs.Rising.{rising_unique}
 use Rattle.un_defs.proofs.Members.{contains_from_among, among_from_contains}
-use Rattle.un_trace.specs.declared.nodes.Seen.{Seen}
+use Rattle.un_walk.specs.declared.seen.Seen.{Seen}
 use Rattle.un_trace.specs.Seen.{spot_of, spots_of}
 use Rattle.un_trace.proofs.Runs.{number_ties}
 

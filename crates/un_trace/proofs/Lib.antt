@@ -9,3 +9,4 @@ pub mod Read
 pub mod Answered
 pub mod Whole
 pub mod Controlling
+pub mod InResult

@@ -1,4 +1,5 @@
 -- What is read of the entries of the result nodes is what the definitions of a result say.
+pub use Rattle.un_walk.proofs.Entered.{head_of, tail_of, AreEntries, each_entry}
 use Rattle.std.proofs.Common.{◌≡◌, ℕ, ℤ, pos, ◌==◌, not, true, false, cond, List, [], ◌∷◌, ◌++◌, length, map, filter, filter_map, flat_map, slice_get, Option, Some, None, refl, sym, ap, ◌∙◌, inl, inr}
 use Rattle.std.specs.Ordering.{nat_cmp}
 use Rattle.std.specs.List.{cons_option}
@@ -9,42 +10,18 @@ use Rattle.un_attrs.specs.Attributes.{attribute}
 use Rattle.un_defs.specs.declared.port.Node.{Node}
 use Rattle.un_defs.specs.declared.star.Spot.{Spot}
 use Rattle.un_defs.specs.Orders.{rising}
-use Rattle.un_defs.specs.Ground.{Ground, entry}
+use Rattle.un_defs.specs.Ground.{Ground}
 use Rattle.un_defs.specs.Result.{entries, feature_ids, nodes_of_feature, attrs_of_feature, values, int_sum, least_value, greatest_value, result_containers, result_contents, result_structures}
-use Rattle.un_defs.proofs.Rising.{Among}
 use Rattle.un_defs.proofs.Members.{among_from-filter}
 use Rattle.un_defs.proofs.ListLemmas.{filter-map}
 use Rattle.un_ask.specs.declared.typed.Func.{Func}
 use Rattle.un_ask.specs.declared.typed.Func.TheVariants.{Count, Sum, Least, Greatest}
-use Rattle.un_trace.specs.declared.nodes.Seen.{Seen}
+use Rattle.un_walk.specs.declared.seen.Seen.{Seen}
 use Rattle.un_trace.specs.declared.included.Inclusion.TheVariants.{Containers, Content, Structures}
-use Rattle.un_trace.specs.Seen.{node_of, nodes_of, spot_of, spots_of, of_feature, first_spot}
+use Rattle.un_trace.specs.Seen.{node_of, nodes_of, spots_of, of_feature, first_spot}
 use Rattle.un_trace.specs.Included.{ids_of}
 use Rattle.un_trace.specs.Functions.{values_of, total_of}
 use Rattle.un_trace.specs.TraceReply.{total, parts, part_of}
-
-abbrev head_of : List (Option Spot) → Option Spot
-head_of [] = None
-head_of (o ∷ os) = o
-
-abbrev tail_of : List (Option Spot) → List (Option Spot)
-tail_of [] = []
-tail_of (o ∷ os) = os
-
--- each node was seen with its entry
-abbrev pub AreEntries : Ground → List Seen → Type 0
-AreEntries G seen = (s : Seen) → Among seen s → spot_of s ≡ entry G s.node
-
-pub each_entry : (G : Ground) (seen : List Seen) → map spot_of seen ≡ map (entry G) (nodes_of seen) → AreEntries G seen
-each_entry G [] e s h = absurd h
-each_entry G (t ∷ ts) e s h =
-    elim h [
-      | inl same ↦ subst_entry t s same (ap head_of e)
-      | inr g ↦ each_entry G ts (ap tail_of e) s g
-    ]
-  where
-    subst_entry : (t s : Seen) → t ≡ s → spot_of t ≡ entry G t.node → spot_of s ≡ entry G s.node
-    subst_entry t s same f = ap spot_of (sym same) ∙ f ∙ ap (λ (x : Seen). entry G x.node) same
 
 pub entries_are : (G : Ground) (seen : List Seen) → AreEntries G seen → entries G (nodes_of seen) ≡ spots_of seen
 entries_are G [] h = refl

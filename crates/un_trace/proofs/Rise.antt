@@ -13,7 +13,7 @@ use Rattle.un_defs.specs.declared.port.Node.{Node}
 use Rattle.un_defs.specs.Orders.{node_cmp}
 use Rattle.un_defs.proofs.Rising.{Among}
 use Rattle.un_defs.proofs.Members.{among-map}
-use Rattle.un_trace.specs.declared.nodes.Seen.{Seen}
+use Rattle.un_walk.specs.declared.seen.Seen.{Seen}
 use Rattle.un_trace.specs.Seen.{nodes_of}
 
 abbrev pub feature_of : Seen → ℕ

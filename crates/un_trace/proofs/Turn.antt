@@ -5,7 +5,7 @@ use Rattle.std.proofs.lemmas.List.{drop-drop, take_rest}
 use Rattle.std.proofs.Math.Seq.{take-add}
 use Rattle.un_defs.proofs.Rising.{Among}
 use Rattle.un_defs.proofs.Members.{among_cases}
-use Rattle.un_trace.specs.declared.nodes.Seen.{Seen}
+use Rattle.un_walk.specs.declared.seen.Seen.{Seen}
 use Rattle.un_trace.proofs.Runs.{IsRunAfter}
 use Rattle.un_trace.proofs.Rise.{feature_of, number_of, Rise, run_of, run_is, among_run, take_run, past_run, run_sorted, rise_drop, first_low}
 

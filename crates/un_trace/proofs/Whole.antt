@@ -12,7 +12,7 @@ use Rattle.un_ask.specs.declared.typed.TypedAsk.{TypedAsk}
 use Rattle.un_ask.specs.declared.results.Part.{Part}
 use Rattle.un_ask.specs.declared.reply.ResultReply.{ResultReply}
 use Rattle.un_ask.specs.declared.reply.Reply.{Reply}
-use Rattle.un_trace.specs.declared.nodes.Seen.{Seen}
+use Rattle.un_walk.specs.declared.seen.Seen.{Seen}
 use Rattle.un_trace.specs.declared.included.Inclusion.TheVariants.{Containers, Content, Structures}
 use Rattle.un_trace.specs.Seen.{nodes_of, spot_of, spots_of, first_spot}
 use Rattle.un_trace.specs.Included.{ids_of}
@@ -55,9 +55,10 @@ result_is G ask reached seen reply w =
     λ i. reply_with (containers i) (content i) (w.features i) (functions i) (w.kind i) (structures i) in
     same ∙ ap (result_of G ask) w.nodes
 
-pub on_ok_map : {T E : Type 0} (r : Result T E) (P Q : Type 0) → (P → Q) → OnOk r P → OnOk r Q
-on_ok_map (Ok x) P Q f h = f h
-on_ok_map (Err e) P Q f h = h
+-- what holds anyway holds of a success
+pub on_ok_any : {T E : Type 0} (r : Result T E) {P : Type 0} → P → OnOk r P
+on_ok_any (Ok x) h = h
+on_ok_any (Err e) h = tt
 
 pub if_ok_map : {T E : Type 0} (r : Result T E) (P Q : T → Type 0) → ((x : T) → P x → Q x) → IfOk r P → IfOk r Q
 if_ok_map (Ok x) P Q f h = f x h

@@ -1,19 +1,14 @@
--- Nodes with the entries that were looked up for them.
-use Rattle.std.specs.Prelude.{ℕ, ◌==◌, List, map, filter, filter_map, slice_get, Option}
-use Rattle.std.specs.Option.{option_copied}
-use Rattle.un_defs.specs.declared.port.Node.{Node}
+-- Nodes with their entries, as a result is told of them.
+pub use Rattle.un_walk.specs.Seen.{node_of, spot_of, nodes_of, HaveEntries}
+use Rattle.std.specs.Prelude.{ℕ, ◌==◌, Bool, not, ◌||◌, List, filter, filter_map, slice_get, Option}
 use Rattle.un_defs.specs.declared.star.Spot.{Spot}
-use Rattle.un_trace.specs.declared.nodes.Seen.{Seen}
+use Rattle.un_defs.specs.declared.walk.Barriers.{Barriers}
+use Rattle.un_walk.specs.declared.seen.Seen.{Seen}
+use Rattle.un_walk.specs.Seen.{is_barrier_by}
 
-abbrev pub node_of : Seen → Node
-node_of s = s.node
-
-abbrev pub spot_of : Seen → Option Spot
-spot_of s = option_copied s.spot
-
--- the nodes
-abbrev pub nodes_of : List Seen → List Node
-nodes_of seen = map node_of seen
+-- the node is in the result: it is no barrier, or barriers are asked for
+abbrev pub is_in_result : Barriers → Bool → Seen → Bool
+is_in_result B with_barriers s = with_barriers || not (is_barrier_by B s)
 
 -- the entries of those that have one
 abbrev pub spots_of : List Seen → List Spot

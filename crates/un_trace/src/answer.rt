@@ -7,7 +7,7 @@ ghost use Rattle.un_defs.specs.declared.port.Node.{Node};
 ghost use Rattle.un_defs.specs.Orders.{node_cmp, rising};
 ghost use Rattle.un_defs.specs.Reach.{IsReach, leads};
 ghost use Rattle.un_walk.specs.Ticks.{IsLookedUpOnce};
-ghost use Rattle.un_trace.specs.Seen.{spots_of};
+ghost use Rattle.un_trace.specs.Seen.{spots_of, nodes_of, HaveEntries};
 ghost use Rattle.un_trace.specs.Included.{ids_of};
 ghost use Rattle.un_trace.specs.TraceReply.{IsAnswerable, IsAnswer, mode_of, where_asked, result_of, nodes_in_result, lists_controllers, controllers_reply, result_reply, clean_reply};
 
@@ -15,12 +15,12 @@ use crate::controllers::controllers_of;
 use crate::features::{Features, features_of};
 use crate::functions::totals;
 use crate::included::{Inclusion, included};
-use crate::nodes::{Seen, seen_nodes};
+use crate::nodes::seen_in_result;
 use std::alloc::{AllocError, Global};
 use un_ask::{Parts, Reply, ResultReply, TraceKind, TypedAsk};
-use un_defs::{Barriers, Dirt, Ground, Ids, Mode, Node};
+use un_defs::{Barriers, Dirt, Ground, Ids, Mode};
 use un_steps::Steps;
-use un_walk::reach;
+use un_walk::{Seen, reach_seen};
 
 fn mode_of(kind: TraceKind) -> Mode
     ensures { result ≡ mode_of kind }
@@ -60,28 +60,19 @@ fn where_asked(
     }
 }
 
-/// The result of a trace that reached these nodes. It looks up one star for each of them.
-fn result_of<G: Ground, L>(
+/// The result of a trace that reached these nodes. The ground is there for the contract alone.
+fn result_of<G: Ground>(
     alloc: Global,
-    over: &G,
+    _over: &G,
     ask: &TypedAsk,
-    reached: &[Node],
-    steps: &mut Steps<L>,
+    reached: &[Seen],
 ) -> Result<ResultReply, AllocError>
-    requires { IsStrictlySortedBy node_cmp reached.now }
-    ensures reply { IfOk result (λ r. r ≡ result_of (G.stars_and_areas over.now) ask.now
-        (nodes_in_result (G.stars_and_areas over.now) ask.now reached.now)) }
-    ensures ticks { OnOk result (steps.new ≡ steps.old + length reached.now) }
-    ensures never_falls { steps.old ≤ steps.new }
+    requires entries { HaveEntries (G.stars_and_areas _over.now) reached.now }
+    requires sorted { IsStrictlySortedBy node_cmp (nodes_of reached.now) }
+    ensures { IfOk result (λ r. r ≡ result_of (G.stars_and_areas _over.now) ask.now
+        (nodes_in_result (G.stars_and_areas _over.now) ask.now (nodes_of reached.now))) }
 {
-    let nodes = seen_nodes(
-        alloc,
-        over,
-        reached,
-        &ask.barriers,
-        ask.include.barriers,
-        steps,
-    )?;
+    let nodes = seen_in_result(alloc, reached, &ask.barriers, ask.include.barriers)?;
     let seen = nodes.as_slice();
     let features = features_of(alloc, seen)?;
     let functions = totals(
@@ -111,63 +102,59 @@ fn lists_controllers(kind: TraceKind) -> bool
     matches!(kind, TraceKind::Controllers)
 }
 
-fn controllers_reply<G: Ground, L>(
+fn controllers_reply<G: Ground>(
     alloc: Global,
     over: &G,
     ask: &TypedAsk,
-    reached: &[Node],
-    steps: &mut Steps<L>,
+    reached: &[Seen],
 ) -> Result<Reply, AllocError>
-    requires { IsSome ask.now.barriers.tier }
-    ensures reply { IfOk result (λ r. r
-        ≡ controllers_reply (G.stars_and_areas over.now) ask.now reached.now) }
-    ensures ticks { OnOk result (steps.new ≡ steps.old + length reached.now) }
-    ensures never_falls { steps.old ≤ steps.new }
+    requires tier { IsSome ask.now.barriers.tier }
+    requires entries { HaveEntries (G.stars_and_areas over.now) reached.now }
+    ensures { IfOk result (λ r. r
+        ≡ controllers_reply (G.stars_and_areas over.now) ask.now (nodes_of reached.now)) }
 {
     let Some(tier) = ask.barriers.tier else {
         unreachable!()
     };
-    let controllers = controllers_of(alloc, over, tier, reached, &ask.barriers, steps)?;
+    let controllers = controllers_of(alloc, over, tier, reached)?;
     Ok(Reply::Controllers {
         controllers,
         version: 0,
     })
 }
 
-fn result_reply<G: Ground, L>(
+fn result_reply<G: Ground>(
     alloc: Global,
     over: &G,
     ask: &TypedAsk,
-    reached: &[Node],
-    steps: &mut Steps<L>,
+    reached: &[Seen],
 ) -> Result<Reply, AllocError>
-    requires { IsStrictlySortedBy node_cmp reached.now }
-    ensures reply { IfOk result (λ r. r ≡ result_reply (G.stars_and_areas over.now) ask.now reached.now) }
-    ensures ticks { OnOk result (steps.new ≡ steps.old + length reached.now) }
-    ensures never_falls { steps.old ≤ steps.new }
+    requires entries { HaveEntries (G.stars_and_areas over.now) reached.now }
+    requires sorted { IsStrictlySortedBy node_cmp (nodes_of reached.now) }
+    ensures { IfOk result (λ r. r
+        ≡ result_reply (G.stars_and_areas over.now) ask.now (nodes_of reached.now)) }
 {
-    let result = result_of(alloc, over, ask, reached, steps)?;
+    let result = result_of(alloc, over, ask, reached)?;
     Ok(Reply::Traced { result, version: 0 })
 }
 
 /// The answer of a trace that reached these nodes, where no dirt matters.
-fn clean_reply<G: Ground, L>(
+fn clean_reply<G: Ground>(
     alloc: Global,
     over: &G,
     ask: &TypedAsk,
-    reached: &[Node],
-    steps: &mut Steps<L>,
+    reached: &[Seen],
 ) -> Result<Reply, AllocError>
     requires kind { IsAnswerable ask.now.kind ask.now.barriers.tier }
-    requires sorted { IsStrictlySortedBy node_cmp reached.now }
-    ensures reply { IfOk result (λ r. r ≡ clean_reply (G.stars_and_areas over.now) ask.now reached.now) }
-    ensures ticks { OnOk result (steps.new ≡ steps.old + length reached.now) }
-    ensures never_falls { steps.old ≤ steps.new }
+    requires entries { HaveEntries (G.stars_and_areas over.now) reached.now }
+    requires sorted { IsStrictlySortedBy node_cmp (nodes_of reached.now) }
+    ensures { IfOk result (λ r. r
+        ≡ clean_reply (G.stars_and_areas over.now) ask.now (nodes_of reached.now)) }
 {
     if lists_controllers(ask.kind) {
-        controllers_reply(alloc, over, ask, reached, steps)
+        controllers_reply(alloc, over, ask, reached)
     } else {
-        result_reply(alloc, over, ask, reached, steps)
+        result_reply(alloc, over, ask, reached)
     }
 }
 
@@ -186,15 +173,15 @@ pub fn trace<G: Ground, L>(
     // The reply is told of exactly the nodes in which a walk from a start ends: a refusal where dirt matters, and else what was asked for.
     ensures answer { IfOk result (IsAnswer (G.stars_and_areas over.now) ask.now) }
 
-    // For each node that is reached, one star is looked up for the walk and one for the answer.
+    // No more stars are looked up than nodes are reached.
     ensures ticks { (reached : List Node)
         → IsReach (leads (G.stars_and_areas over.now) ask.now.barriers (mode_of ask.now.kind)) ask.now.starts reached
         → IsLookedUpOnce (G.stars_and_areas over.now) ask.now.barriers
-        → OnOk result (steps.new ≤ steps.old + 2 * length reached) }
+        → OnOk result (steps.new ≤ steps.old + length reached) }
     ensures never_falls { steps.old ≤ steps.new }
 {
     let mode = mode_of(ask.kind);
-    let reached = reach(
+    let reached = reach_seen(
         alloc,
         over,
         ask.starts.as_slice(),
@@ -204,6 +191,6 @@ pub fn trace<G: Ground, L>(
     )?;
     match dirt_that_matters(&ask.barriers, reached.dirt) {
         Some(dirt) => Ok(Reply::on_dirty_ground(dirt)),
-        None => clean_reply(alloc, over, ask, reached.nodes.as_slice(), steps),
+        None => clean_reply(alloc, over, ask, reached.seen.as_slice()),
     }
 }

@@ -11,10 +11,10 @@ ghost use Rattle.un_defs.specs.Result.{feature_ids};
 ghost use Rattle.un_trace.specs.Seen.{nodes_of, spots_of, first_spot};
 ghost use Rattle.un_trace.specs.TraceReply.{parts};
 
-use crate::nodes::Seen;
 use std::alloc::{AllocError, Global};
 use un_ask::{Numbers, Part};
 use un_defs::Spot;
+use un_walk::Seen;
 
 /// The features of a result, rising, and the first entry of each feature that has one.
 #[derive(Drop)]

@@ -8,11 +8,11 @@ ghost use Rattle.un_defs.specs.Orders.{rising};
 ghost use Rattle.un_trace.specs.Seen.{spot_of, spots_of};
 ghost use Rattle.un_trace.specs.Included.{ids_of};
 
-use crate::nodes::Seen;
 use std::alloc::{AllocError, Global};
 use std::collections::BTreeSet;
 use std::slice;
 use un_defs::{Ids, Spot};
+use un_walk::Seen;
 
 /// What a result tells of the entries of its nodes.
 #[derive(Clone, Copy)]

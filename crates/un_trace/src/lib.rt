@@ -11,9 +11,8 @@
 //!
 //! # How it is found
 //!
-//! [`answer::trace`] asks `un_walk` for the reached nodes, which come rising by port, and for the dirt. It looks up the star of each reached
-//! node once and keeps the result nodes with their entries ([`nodes::seen_nodes`]). Since they rise by port, the nodes of a feature stand
-//! together: one pass cuts them into runs of one feature ([`features::features_of`]), and each run gives its feature, its numbers and the
+//! [`answer::trace`] asks `un_walk` for the reached nodes with their entries, which come rising by port, and for the dirt. It keeps the result
+//! nodes ([`nodes::seen_in_result`]). Since they rise by port, the nodes of a feature stand together: one pass cuts them into runs of one feature ([`features::features_of`]), and each run gives its feature, its numbers and the
 //! first entry in it. A number may stand twice in a run, since a port may stand at two points where areas are dirty; it is told once. The
 //! ids of containers, content and structures go into a set that keeps them in order ([`included::included`]). Each function is taken over
 //! the values that the first entries have ([`functions::totals`]). Controllers are put one after another into a rising list
@@ -29,14 +28,12 @@
 //!
 //! # What it costs
 //!
-//! Beside the walk, one look-up of a star for each reached node, time that is linear in the result nodes for the features, one step in an
-//! ordered set for each id that an entry gives, and a pass over the features for each function. For controllers, a comparison of each with
+//! Beside the walk, time that is linear in the result nodes for the features, one step in an ordered set for each id that an entry gives, and a pass over the features for each function. For controllers, a comparison of each with
 //! those that are told before it.
 #![tactic(auto)]
 
 pub mod answer;
 mod controllers;
-mod entries;
 mod features;
 mod functions;
 mod included;

@@ -4,3 +4,4 @@ pub mod LinkTests
 pub mod Walked
 pub mod DirtMet
 pub mod Spreading
+pub mod Entered

@@ -2,5 +2,7 @@ pub mod Dirt
 pub mod EachOnce
 pub mod Entries
 pub mod Growth
+pub mod Seen
+pub mod Site
 pub mod Ticks
 pub mod Spread

@@ -1,15 +1,14 @@
 //! The nodes that a walk has found, each once, in the order in which they were found.
 
 ghost use Rattle.std.specs.Prelude.{◌≡◌, ℕ, ◌<◌, List, [], length, slice_get, Some, OnOk, OnErr, IfOk};
-ghost use Rattle.std.specs.List.Sorted.{IsPermutation, IsStrictlySortedBy};
-ghost use Rattle.un_defs.specs.Orders.{node_cmp};
+ghost use Rattle.std.specs.List.{IsDistinct};
+ghost use Rattle.un_defs.specs.Orders.{same_node};
 ghost use Rattle.un_walk.specs.Growth.{with_node};
 
 use std::alloc::{AllocError, Global};
 use std::collections::HashSet;
 use std::marker::Model;
 use un_defs::Node;
-use un_defs::port::Nodes;
 
 /// A list of distinct nodes that knows at once whether it has a node.
 #[derive(Drop)]
@@ -40,8 +39,10 @@ impl Found {
         }
     }
 
+    /// How many nodes there are.
     pub(crate) fn len(&self) -> usize
-        ensures { result ≡ length self.now }
+        ensures len { result ≡ length self.now }
+        ensures distinct { IsDistinct same_node self.now }
     {
         self.order.len()
     }
@@ -63,16 +64,5 @@ impl Found {
             self.order.push(node)?;
         }
         Ok(())
-    }
-
-    /// The nodes in rising order.
-    pub(crate) fn into_rising(self) -> Nodes
-        ensures rising { IsStrictlySortedBy node_cmp result }
-        ensures permutation { IsPermutation self result }
-    {
-        let Found { seen: _, order } = self;
-        let mut nodes = order;
-        nodes.sort_unstable();
-        Nodes::new(nodes)
     }
 }

@@ -11,10 +11,12 @@
 //!
 //! # How it is found
 //!
-//! [`walk::reach`] keeps the nodes found so far as a list without repeats ([`found::Found`]): first the starts, then each further node as it
-//! is found. It takes the nodes of the list in order. Of each it asks the ground for the least dirty area and, if a walk may go on from it,
-//! for its star once ([`walk::visit`]); then it adds what the node's links lead to, unless the list has it ([`ways::follow`]). It is done once
-//! it has taken the last node. The dirt is kept on the way: the least so far, by area, then port ([`dirt::dirt_after`]).
+//! [`walk::reach_seen`] keeps the nodes found so far as a list without repeats ([`found::Found`]): first the starts, then each further node as
+//! it is found. It takes the nodes of the list in order. Of each it asks the ground for the star and the least dirty area at its point, unless
+//! the node before it stands there too ([`site::site_at`]). If a walk may go on from the node, it adds what the node's links lead to, unless the
+//! list has it ([`walk::visit`], [`traversal::follow`]). It is done once it has taken the last node. The dirt is kept on the way: the least so
+//! far, by area, then port ([`dirt::dirt_after`]). So are the nodes with their entries, which callers need for their results. [`walk::reach`] is
+//! the same without the entries.
 //!
 //! # Why that is enough
 //!
@@ -31,8 +33,8 @@
 //!
 //! # What it costs
 //!
-//! One look-up of an area and at most one of a star for each node that is reached, and one look-up in a hash set for each link of an open
-//! node that the mode takes. Only where a tier is asked for and a path leads to another point is one more star looked up. Sorting the nodes
+//! At most one look-up of an area and one of a star for each node that is reached, and one look-up in a hash set for each link of an open node
+//! that the mode takes. Only where a tier is asked for and a path leads to another point is one more star looked up. Sorting the nodes
 //! takes n log n comparisons.
 #![tactic(auto)]
 
@@ -40,8 +42,11 @@ pub mod barriers;
 mod dirt;
 mod entries;
 mod found;
+pub mod seen;
+mod site;
 mod traversal;
 pub mod walk;
 
 pub use barriers::entry_unless_barrier;
-pub use walk::{Reached, reach};
+pub use seen::Seen;
+pub use walk::{Reached, ReachedSeen, reach, reach_seen};

@@ -39,7 +39,8 @@ fn is_path(name: LinkName) -> bool
     matches!(name, LinkName::Path { .. })
 }
 
-fn is_same_point(a: Point, b: Point) -> bool
+/// The two points are the same.
+pub(crate) fn is_same_point(a: Point, b: Point) -> bool
     ensures { result ≡ same_point a b }
 {
     a == b

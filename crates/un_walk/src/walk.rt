@@ -2,14 +2,18 @@
 
 ghost use Rattle.std.specs.Prelude.{◌≡◌, ◌≤◌, ◌+◌, ◌&&◌, [], length, IfOk, OnOk};
 ghost use Rattle.std.specs.List.{list_any};
-ghost use Rattle.un_defs.specs.Ground.{is_dirty};
+ghost use Rattle.un_defs.specs.Ground.{entry};
 ghost use Rattle.un_defs.specs.Orders.{same_node};
 ghost use Rattle.un_defs.specs.Reach.{IsReach, leads, dirt};
 ghost use Rattle.un_walk.specs.Growth.{Grows};
+ghost use Rattle.un_walk.specs.Seen.{nodes_of, spot_of, HaveEntries};
+ghost use Rattle.un_walk.specs.Site.{IsSite};
 ghost use Rattle.un_walk.specs.Ticks.{IsLookedUpOnce};
 
 use crate::dirt::dirt_after;
 use crate::found::Found;
+use crate::seen::Seen;
+use crate::site::{Site, site_at};
 use crate::traversal::{Place, follow};
 use std::alloc::{AllocError, Global};
 use un_defs::port::Nodes;
@@ -20,6 +24,13 @@ use un_steps::Steps;
 #[derive(Drop)]
 pub struct Reached {
     pub nodes: Nodes,
+    pub dirt: Option<Dirt>,
+}
+
+/// The nodes that walks reach, rising, each with its entry, and the dirt that they meet.
+#[derive(Drop)]
+pub struct ReachedSeen<'a> {
+    pub seen: Vec<Seen<'a>>,
     pub dirt: Option<Dirt>,
 }
 
@@ -42,31 +53,33 @@ fn is_shut_by_dirt(barriers: &Barriers, dirty_here: bool) -> bool
 /// Adds the nodes to which a walk goes on from this one.
 fn visit<G: Ground, L>(
     over: &G,
-    node: Node,
-    dirty_here: bool,
+    one: &Seen,
+    site: &Site,
     mode: Mode,
     barriers: &Barriers,
     found: &mut Found,
     steps: &mut Steps<L>,
 ) -> Result<(), AllocError>
-    requires { dirty_here ≡ is_dirty (G.stars_and_areas over.now) node.at }
-    ensures next { OnOk result
-        (Grows found.old found.new (leads (G.stars_and_areas over.now) barriers.now mode node)) }
+    requires site { IsSite (G.stars_and_areas over.now) site.now }
+    requires at { site.now.at ≡ one.now.node.at }
+    requires entry { spot_of one.now ≡ entry (G.stars_and_areas over.now) one.now.node }
+    ensures next { OnOk result (Grows found.old found.new
+        (leads (G.stars_and_areas over.now) barriers.now mode one.now.node)) }
     ensures once { IsLookedUpOnce (G.stars_and_areas over.now) barriers.now
-        → OnOk result (steps.new ≤ steps.old + 1) }
+        → OnOk result (steps.new ≡ steps.old) }
     ensures never_falls { steps.old ≤ steps.new }
 {
-    if is_shut_by_dirt(barriers, dirty_here) {
+    let node = one.node;
+    if is_shut_by_dirt(barriers, site.area.is_some()) {
         return Ok(());
     }
     if barriers.stop_at(node.port) {
         return Ok(());
     }
-    steps.tick();
-    let Some(star) = over.star(node.at) else {
+    let Some(spot) = one.spot else {
         return Ok(());
     };
-    let Some(spot) = star.entry(node.port) else {
+    let Some(star) = site.star else {
         return Ok(());
     };
     if barriers.are_met_by(spot) {
@@ -80,6 +93,59 @@ fn visit<G: Ground, L>(
         found,
         steps,
     )
+}
+
+/// What walks from the starts reach, with the entries, and the dirt that they meet.
+///
+/// `steps` counts the stars that are looked up. It answers an error only for want of memory; the count may then have risen.
+pub fn reach_seen<'a, G: Ground, L>(
+    alloc: Global,
+    over: &'a G,
+    starts: &[Node],
+    mode: Mode,
+    barriers: &Barriers,
+    steps: &mut Steps<L>,
+) -> Result<ReachedSeen<'a>, AllocError>
+    // The nodes are exactly those in which a walk ends, rising.
+    ensures nodes { IfOk result
+        (λ r. IsReach (leads (G.stars_and_areas over.now) barriers.now mode) starts.now (nodes_of r.seen.items)) }
+    ensures entries { IfOk result (λ r. HaveEntries (G.stars_and_areas over.now) r.seen.items) }
+    // The least area that covers one of them, and the least port of those that it covers.
+    ensures dirt { IfOk result (λ r. r.dirt ≡ dirt (G.stars_and_areas over.now) (nodes_of r.seen.items)) }
+
+    // No more stars are looked up than nodes are reached.
+    ensures ticks { IsLookedUpOnce (G.stars_and_areas over.now) barriers.now
+        → IfOk result (λ r. steps.new ≤ steps.old + length r.seen.items) }
+    ensures never_falls { steps.old ≤ steps.new }
+{
+    let mut found = found_starts(alloc, starts)?;
+    let mut seen = Vec::new(alloc);
+    let mut least = None;
+    let mut last = None;
+    let mut next = 0;
+    while next < found.len() {
+        let node = found.at(next);
+        let site = site_at(over, node.at, last, steps);
+        let spot = site.entry(node.port);
+        let one = Seen { node, spot };
+        least = dirt_after(least, site.area, node.port);
+        visit(over, &one, &site, mode, barriers, &mut found, steps)?;
+        seen.push(one)?;
+        last = Some(site);
+        next += 1;
+    }
+    seen.sort_unstable_by_key(|one| one.node);
+    Ok(ReachedSeen { seen, dirt: least })
+}
+
+fn nodes_of(alloc: Global, seen: &[Seen]) -> Result<Nodes, AllocError>
+    ensures { IfOk result (λ nodes. nodes ≡ nodes_of seen.now) }
+{
+    let mut nodes = Vec::with_capacity(alloc, seen.len())?;
+    for one in seen {
+        nodes.push(one.node)?;
+    }
+    Ok(Nodes::new(nodes))
 }
 
 /// What walks from the starts reach, and the dirt that they meet.
@@ -104,26 +170,9 @@ pub fn reach<G: Ground, L>(
         → IfOk result (λ r. steps.new ≤ steps.old + length r.nodes) }
     ensures never_falls { steps.old ≤ steps.new }
 {
-    let mut found = found_starts(alloc, starts)?;
-    let mut least = None;
-    let mut next = 0;
-    while next < found.len() {
-        let node = found.at(next);
-        let area = over.dirty(node.at);
-        least = dirt_after(least, area, node.port);
-        visit(
-            over,
-            node,
-            area.is_some(),
-            mode,
-            barriers,
-            &mut found,
-            steps,
-        )?;
-        next += 1;
-    }
+    let ReachedSeen { seen, dirt } = reach_seen(alloc, over, starts, mode, barriers, steps)?;
     Ok(Reached {
-        nodes: found.into_rising(),
-        dirt: least,
+        nodes: nodes_of(alloc, seen.as_slice())?,
+        dirt,
     })
 }

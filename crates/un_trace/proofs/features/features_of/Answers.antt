@@ -1,7 +1,7 @@
 use Rattle.std.proofs.Common.{List, [], ◌∷◌, ◌++◌, map, take, take_all, sym, ap, subst, ◌∙◌, arith, IsSorted}
 use Rattle.std.specs.Ordering.{nat_cmp}
 use Rattle.std.specs.List.{cons_option}
-use Rattle.un_trace.specs.declared.nodes.Seen.{Seen}
+use Rattle.un_walk.specs.declared.seen.Seen.{Seen}
 use Rattle.un_trace.proofs.Rise.{feature_of, number_of, rise_from}
 use Rattle.un_trace.proofs.SeenParts.{seen_parts, seen_firsts, parts_are, firsts_are, parts_more, firsts_more, read_part, read_first}
 use Rattle.un_trace.proofs.Turn.{turn, counted}

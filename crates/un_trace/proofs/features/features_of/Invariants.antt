@@ -1,7 +1,7 @@
 use Rattle.std.proofs.Common.{◌≡◌, ◌-◌, ◌<◌, ◌≤◌, map, length, take, drop}
 use Rattle.std.specs.Map.Iter.{deref}
 use Rattle.un_defs.proofs.Rising.{Among}
-use Rattle.un_trace.specs.declared.nodes.Seen.{Seen}
+use Rattle.un_walk.specs.declared.seen.Seen.{Seen}
 use Rattle.un_trace.proofs.Rise.{feature_of}
 use Rattle.un_trace.proofs.SeenParts.{seen_parts, seen_firsts}
 use Rattle.un_trace.proofs.features.features_of.Given as goal

@@ -3,7 +3,7 @@ use Rattle.std.specs.Ordering.{nat_cmp}
 use Rattle.std.specs.BTreeSet.{insert_key}
 use Rattle.std.specs.Option.{option_map_or}
 use Rattle.std.proofs.lemmas.List.Sums.{fold-append}
-use Rattle.un_trace.specs.declared.nodes.Seen.{Seen}
+use Rattle.un_walk.specs.declared.seen.Seen.{Seen}
 use Rattle.un_trace.specs.Seen.{spot_of, spots_of}
 use Rattle.un_trace.specs.Included.{ids_of}
 use Rattle.un_trace.proofs.Gathered.{put_all, put_rising, gathered_more}

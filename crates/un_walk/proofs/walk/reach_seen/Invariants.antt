@@ -1,14 +1,20 @@
-use Rattle.std.proofs.Common.{◌≤◌, ◌+◌, ◌-◌, ◌^◌, length, take}
+use Rattle.std.proofs.Common.{◌≡◌, ◌≤◌, ◌+◌, ◌-◌, ◌^◌, length, take, IfSome}
 use Rattle.un_defs.specs.Reach.{leads}
+use Rattle.un_walk.specs.Seen.{nodes_of, HaveEntries}
+use Rattle.un_walk.specs.Site.{IsSite}
 use Rattle.un_walk.specs.Ticks.{IsLookedUpOnce}
 use Rattle.un_walk.proofs.Walked.{Walked}
 use Rattle.un_walk.proofs.DirtMet.{IsDirtOf}
-use Rattle.un_walk.proofs.walk.reach.Given as goal
+use Rattle.un_walk.proofs.walk.reach_seen.Given as goal
 
--- the nodes before the next are done: what they lead to is found, their dirt is known, the count has not fallen, and each was looked up once
+-- the nodes before the next are done: they were seen with their entries, what they lead to is found, their dirt is known, the count has not
+-- fallen, and no more was looked up than they are
 abbrev pub invariant-loop-next : goal.invariant-loop-next
 invariant-loop-next g l = record {
   within : l.next ≤ length l.found;
+  nodes : nodes_of l.seen.items ≡ take l.next l.found;
+  entries : HaveEntries (g.G.Ground.stars_and_areas l.over) l.seen.items;
+  site : IfSome l.last (IsSite (g.G.Ground.stars_and_areas l.over));
   walked : Walked (leads (g.G.Ground.stars_and_areas l.over) l.barriers l.mode) l.starts l.found l.next;
   dirt : IsDirtOf (g.G.Ground.stars_and_areas l.over) (take l.next l.found) l.least;
   rises : l.fn.steps ≤ l.steps;

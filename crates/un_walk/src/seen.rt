@@ -1,0 +1,25 @@
+//! Reached nodes with their entries.
+
+ghost use Rattle.std.specs.Prelude.{◌≡◌};
+ghost use Rattle.un_walk.specs.Seen.{is_barrier_by};
+
+use un_defs::{Barriers, Node, Spot};
+
+/// A node and its entry, if it has one.
+#[derive(Clone, Copy)]
+pub struct Seen<'a> {
+    pub node: Node,
+    pub spot: Option<&'a Spot>,
+}
+
+impl Seen<'_> {
+    /// Whether the node is a barrier: its entry meets the condition of the request or of the tier, or its port is among the stops.
+    pub fn is_barrier(&self, barriers: &Barriers) -> bool
+        ensures { result ≡ is_barrier_by barriers.now self.now }
+    {
+        match self.spot {
+            Some(spot) if barriers.are_met_by(spot) => true,
+            _ => barriers.stop_at(self.node.port),
+        }
+    }
+}
