@@ -2,3 +2,4 @@ pub mod Checking
 pub mod NoMemory
 pub mod Tiers
 pub mod StartsStand
+pub mod Isolating

@@ -15,7 +15,8 @@ use Rattle.un_tiers.specs.declared.setup.Setup.{Setup}
 use Rattle.un_defs.proofs.NoMemory.{IsOther, AreOther, first_other, other_where}
 use Rattle.un_resolve.specs.Kinds.{needs_tier, is_subnetwork, is_isolation, lacks, lacking}
 use Rattle.un_resolve.specs.Starts.{given_starts, start_node, no_feature, no_start, tier_of, no_tier, controller_ports, no_subnet, starts_refusal}
-use Rattle.un_resolve.specs.Resolved.{bad_condition, conditions_refusal, resolving_refusal}
+use Rattle.un_resolve.specs.Valves.{isolates, on_valve, valves_refusal}
+use Rattle.un_resolve.specs.Resolved.{condition_of, bad_condition, conditions_refusal, valve_refusal, resolving_refusal}
 
 lacks_other : (needed given : Bool) (p : Place) → IsOther (lacks needed given p)
 lacks_other needed given p = other_where (needed && not given) (refusal.BadRequest p) (λ e. cc)
@@ -69,7 +70,11 @@ unfolding AreOther
 conditions_other S ask = first_other (bad_condition S ask.isolators place.Isolators ∷ bad_condition S ask.barriers place.Barriers ∷ [])
     (condition_other S ask.isolators place.Isolators, (condition_other S ask.barriers place.Barriers, tt))
 
+valves_other : (S : Catalog) (F : Features) (isolators : Option (Condition ℕ)) (ports : List Port) → IsOther (valves_refusal S F isolators ports)
+valves_other S F isolators ports =
+    ports_other (on_valve S F isolators) (λ q. other_where (isolates S F isolators q) (refusal.StartIsValve q.feature q.number) (λ e. cc)) ports
+
 pub resolving_other : (S : Setup) (F : Features) (ask : TraceAsk) → IsOther (resolving_refusal S F ask)
 unfolding AreOther
-resolving_other S F ask = first_other (lacking ask ∷ starts_refusal S F ask ∷ conditions_refusal S.schema ask ∷ [])
-    (lacking_other ask, (starts_other S F ask, (conditions_other S.schema ask, tt)))
+resolving_other S F ask = first_other (lacking ask ∷ starts_refusal S F ask ∷ conditions_refusal S.schema ask ∷ valve_refusal S F ask ∷ [])
+    (lacking_other ask, (starts_other S F ask, (conditions_other S.schema ask, (valves_other S.schema F (condition_of S.schema ask.isolators) (given_starts ask), tt))))

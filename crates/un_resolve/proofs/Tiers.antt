@@ -10,18 +10,18 @@ use Rattle.un_ask.specs.declared.trace.TraceAsk.{TraceAsk}
 use Rattle.un_resolve.specs.Kinds.{needs_tier, is_subnetwork, is_isolation, lacks, lacking}
 use Rattle.un_resolve.specs.Starts.{tier_of, no_tier}
 
-some_none : {A : Type 0} (r : Refusal) → Some r ≡ None → A
+pub some_none : {A : Type 0} (r : Refusal) → Some r ≡ None → A
 some_none r e = absurd (apart e)
   where
     apart : Some r ≡ None → ⊥
     apart e = cc
 
 -- where nothing is due of a list, nothing is due of its first
-none_first : (d : Option Refusal) (ds : List (Option Refusal)) → first_refusal (d ∷ ds) ≡ None → d ≡ None
+pub none_first : (d : Option Refusal) (ds : List (Option Refusal)) → first_refusal (d ∷ ds) ≡ None → d ≡ None
 none_first None ds e = refl
 none_first (Some r) ds e = some_none r e
 
-is_given : (needed given : Bool) (p : Place) → lacks needed given p ≡ None → IsTrue needed → given ≡ true
+pub is_given : (needed given : Bool) (p : Place) → lacks needed given p ≡ None → IsTrue needed → given ≡ true
 is_given true true p e h = refl
 is_given true false p e h = some_none (refusal.BadRequest p) e
 is_given false given p e h = absurd (apart h)

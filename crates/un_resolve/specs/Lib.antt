@@ -1,3 +1,4 @@
 pub mod Kinds
 pub mod Starts
 pub mod Resolved
+pub mod Valves

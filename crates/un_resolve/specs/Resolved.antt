@@ -21,7 +21,8 @@ use Rattle.un_ask.specs.declared.typed.Func.{Func}
 use Rattle.un_ask.specs.declared.typed.Func.TheVariants as func
 use Rattle.un_ask.specs.declared.typed.TypedAsk.{TypedAsk}
 use Rattle.un_resolve.specs.Kinds.{is_always_consistent, lacking}
-use Rattle.un_resolve.specs.Starts.{tier_of, start_nodes, starts_refusal}
+use Rattle.un_resolve.specs.Starts.{given_starts, tier_of, start_nodes, starts_refusal}
+use Rattle.un_resolve.specs.Valves.{valves_refusal}
 
 -- ---- conditions
 
@@ -83,6 +84,11 @@ resolved S F ask = record {
   functions = map (func_of S.schema) ask.functions;
 }
 
--- the first refusal that can be told before a walk: what the request lacks, and then what its names and ports do not name
+-- a trace for isolation starts on an isolating device
+abbrev pub valve_refusal : Setup → Features → TraceAsk → Option Refusal
+valve_refusal S F ask = valves_refusal S.schema F (condition_of S.schema ask.isolators) (given_starts ask)
+
+-- the first refusal that can be told before a walk: what the request lacks, then what its names and ports do not name, and then a start on an
+-- isolating device
 abbrev pub resolving_refusal : Setup → Features → TraceAsk → Option Refusal
-resolving_refusal S F ask = first_refusal (lacking ask ∷ starts_refusal S F ask ∷ conditions_refusal S.schema ask ∷ [])
+resolving_refusal S F ask = first_refusal (lacking ask ∷ starts_refusal S F ask ∷ conditions_refusal S.schema ask ∷ valve_refusal S F ask ∷ [])

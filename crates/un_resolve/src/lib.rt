@@ -10,7 +10,8 @@
 //!
 //! The causes are looked at in a fixed order, each over everything that can have it before the next one is: a member that the trace's kind
 //! needs ([`kinds`]); the features of the given ports; the tier; the controllers of the subnetwork; the given ports ([`starts`]); the condition
-//! for isolating devices, and the one for barriers ([`names`]). [`trace::resolve`] does this and builds the trace. A start stands at the
+//! for isolating devices, and the one for barriers ([`names`]); and whether a start is on an isolating device ([`valves`]). [`trace::resolve`]
+//! does this and builds the trace. A start stands at the
 //! place that its port has in the row now, so it may stand at a point whose star is older than the row.
 //!
 //! # What it costs
@@ -22,5 +23,6 @@ mod kinds;
 mod names;
 mod starts;
 pub mod trace;
+mod valves;
 
 pub use trace::resolve;

@@ -19,7 +19,7 @@ pub(crate) struct Starts {
 }
 
 /// The ports that a request gives. A subnetwork trace takes none.
-fn given_starts(ask: &TraceAsk) -> &[Port]
+pub(crate) fn given_starts(ask: &TraceAsk) -> &[Port]
     ensures { result.now ≡ given_starts ask.now }
 {
     if is_subnetwork(ask.kind) {

@@ -1,16 +1,18 @@
 //! The call that looks up the names of a trace.
 
-ghost use Rattle.std.specs.Prelude.{◌≡◌, ◌≢◌, Contains, Some, None, IsSome, IsTrue, IfOk, OnOk, IfErr};
+ghost use Rattle.std.specs.Prelude.{◌≡◌, ◌≢◌, Contains, false, Some, None, IsSome, IsTrue, IfOk, OnOk, IfErr};
 ghost use Rattle.un_defs.specs.declared.refusal.Refusal.TheVariants.{Memory};
 ghost use Rattle.un_defs.specs.declared.port.Node.{Node};
 ghost use Rattle.un_defs.specs.Ports.{nodes};
-ghost use Rattle.un_resolve.specs.Kinds.{needs_tier};
+ghost use Rattle.un_resolve.specs.Kinds.{needs_tier, is_isolation};
 ghost use Rattle.un_resolve.specs.Starts.{tier_of, start_nodes};
+ghost use Rattle.un_resolve.specs.Valves.{isolates};
 ghost use Rattle.un_resolve.specs.Resolved.{condition_of, barriers_of, resolved, resolving_refusal};
 
 use crate::kinds::{is_always_consistent, lacking};
 use crate::names::{Conditions, conditions_of, copy_name, functions, tier_barrier, tier_disjoint};
-use crate::starts::{Starts, starts_of};
+use crate::starts::{Starts, given_starts, starts_of};
+use crate::valves::check_valves;
 use std::alloc::{AllocError, Global};
 use un_ask::{Funcs, TraceAsk, TypedAsk};
 use un_conds::Cond;
@@ -76,9 +78,9 @@ fn built<D: Directory>(
 ///
 /// In this order it is refused: `BadRequest` where it lacks a member that its kind needs, with the member; `NoSuchFeature` for the first given
 /// start whose feature is not live; `NoSuchTier`; `NoSuchSubnetwork` where a subnetwork trace finds no controller of the tier and name;
-/// `NoStart` for the first given start that its feature has not; `BadCondition` for the isolating devices, and then for the barriers. It
-/// answers `Memory` only for want of memory.
-#[tactic(auto, using(crate::proofs::Tiers::has_tier))]
+/// `NoStart` for the first given start that its feature has not; `BadCondition` for the isolating devices, and then for the barriers;
+/// `StartIsValve` for the first given start on an isolating device. It answers `Memory` only for want of memory.
+#[tactic(auto, using(crate::proofs::Tiers::has_tier, crate::proofs::Isolating::has_isolators))]
 pub fn resolve<D: Directory>(
     alloc: Global,
     setup: &Setup,
@@ -93,6 +95,13 @@ pub fn resolve<D: Directory>(
     ensures good { OnOk result (resolving_refusal setup.now (D.features features.now) ask.now ≡ None) }
     // A trace that walks in a tier has one.
     ensures tier { OnOk result (IsTrue (needs_tier ask.now.kind) → IsSome (tier_of setup.now ask.now)) }
+    // A trace for isolation has a condition for isolating devices, and starts on none.
+    ensures isolators { OnOk result (IsTrue (is_isolation ask.now.kind)
+        → IsSome (condition_of setup.now.schema ask.now.isolators)) }
+    ensures clear { OnOk result (IsTrue (is_isolation ask.now.kind)
+        → (n : Node) → Contains (start_nodes setup.now (D.features features.now) ask.now) n
+        → isolates setup.now.schema (D.features features.now)
+        (condition_of setup.now.schema ask.now.isolators) n.port ≡ false) }
     ensures bad { IfErr result (λ r. r ≢ Memory
         → resolving_refusal setup.now (D.features features.now) ask.now ≡ Some r) }
 {
@@ -101,6 +110,8 @@ pub fn resolve<D: Directory>(
     }
     let starts = starts_of(alloc, setup, features, ask)?;
     let conditions = conditions_of(alloc, &setup.schema, ask)?;
+    let given = given_starts(ask);
+    check_valves(&setup.schema, features, &conditions.isolators, given)?;
     let typed = built(alloc, setup, features, ask, starts, conditions)?;
     Ok(typed)
 }

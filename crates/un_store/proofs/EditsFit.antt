@@ -41,7 +41,7 @@ same_is Assembly Assembly e = refl
 same_is Structure Structure e = refl
 same_is _ _ e = cc
 
-has_paths : (S : Catalog) → IsCatalog S → HasPaths S
+pub has_paths : (S : Catalog) → IsCatalog S → HasPaths S
 has_paths S is = λ i d h. (is.configs i d h).named
 
 -- a name that is found is that of a kind
