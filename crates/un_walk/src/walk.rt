@@ -34,6 +34,25 @@ pub struct ReachedSeen<'a> {
     pub dirt: Option<Dirt>,
 }
 
+fn nodes_of(alloc: Global, seen: &[Seen]) -> Result<Nodes, AllocError>
+    ensures { IfOk result (λ nodes. nodes ≡ nodes_of seen.now) }
+{
+    let mut nodes = Vec::with_capacity(alloc, seen.len())?;
+    for one in seen {
+        nodes.push(one.node)?;
+    }
+    Ok(Nodes::new(nodes))
+}
+
+impl ReachedSeen<'_> {
+    /// The nodes alone.
+    pub fn nodes(&self, alloc: Global) -> Result<Nodes, AllocError>
+        ensures { IfOk result (λ nodes. nodes ≡ nodes_of self.now.seen.items) }
+    {
+        nodes_of(alloc, self.seen.as_slice())
+    }
+}
+
 fn found_starts(alloc: Global, starts: &[Node]) -> Result<Found, AllocError>
     ensures { IfOk result (λ found. Grows [] found (λ n. list_any (λ s. same_node s n) starts.now)) }
 {
@@ -138,16 +157,6 @@ pub fn reach_seen<'a, G: Ground, L>(
     Ok(ReachedSeen { seen, dirt: least })
 }
 
-fn nodes_of(alloc: Global, seen: &[Seen]) -> Result<Nodes, AllocError>
-    ensures { IfOk result (λ nodes. nodes ≡ nodes_of seen.now) }
-{
-    let mut nodes = Vec::with_capacity(alloc, seen.len())?;
-    for one in seen {
-        nodes.push(one.node)?;
-    }
-    Ok(Nodes::new(nodes))
-}
-
 /// What walks from the starts reach, and the dirt that they meet.
 ///
 /// `steps` counts the stars that are looked up. It answers an error only for want of memory; the count may then have risen.
@@ -170,9 +179,9 @@ pub fn reach<G: Ground, L>(
         → IfOk result (λ r. steps.new ≤ steps.old + length r.nodes) }
     ensures never_falls { steps.old ≤ steps.new }
 {
-    let ReachedSeen { seen, dirt } = reach_seen(alloc, over, starts, mode, barriers, steps)?;
+    let reached = reach_seen(alloc, over, starts, mode, barriers, steps)?;
     Ok(Reached {
-        nodes: nodes_of(alloc, seen.as_slice())?,
-        dirt,
+        nodes: reached.nodes(alloc)?,
+        dirt: reached.dirt,
     })
 }

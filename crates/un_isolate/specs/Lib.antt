@@ -1,0 +1,10 @@
+pub mod Answer
+pub mod Isolation
+pub mod IsolationList
+pub mod Laws
+pub mod Links
+pub mod Marks
+pub mod Network
+pub mod Parts
+pub mod Spread
+pub mod Entries
