@@ -13,6 +13,10 @@ use Rattle.un_ask.specs.declared.reply.Reply.{Reply}
 use Rattle.un_ask.specs.declared.trace.TraceKind.TheVariants as kind
 use Rattle.un_trace.specs.TraceReply.{IsAnswer, trace_reply, mode_of}
 use Rattle.un_loops.specs.Answer.{IsAnswer as IsLoopsAnswer, loops_reply}
+use Rattle.un_isolate.specs.Answer.{IsAnswer as IsIsolationAnswer, isolation_reply}
+use Rattle.un_resolve.specs.Kinds.{is_isolation}
+use Rattle.un_defs.specs.declared.port.Node.{Node}
+use Rattle.un_defs.specs.Ground.{Ground}
 use Rattle.un_defs.specs.declared.walk.Mode.TheVariants.{Any}
 use Rattle.un_core.specs.State.{State, kept_ground}
 use Rattle.un_core.specs.Walked.{reached}
@@ -37,13 +41,18 @@ kept_on s ask = ap (λ v. at_version s.version (traced v ask)) (go ask.barriers.
     go true = refl
     go false = refl
 
+-- the reply by its kind
+abbrev pub reply_by : Bool → Bool → Ground → TypedAsk → List Node → Reply
+reply_by loops isolation G ask reached = if loops then loops_reply G ask reached else if isolation then isolation_reply G ask reached else trace_reply G ask reached
+
 -- the answer of a trace over what is kept is the one for the list of reached nodes
-pub answer_kept : (s : State) (ask : TypedAsk) (reply : Reply) → is_loops ask.kind ≡ false → IsAnswer (kept_ground s) ask reply → reply ≡ traced (kept_survey s) ask
-answer_kept s ask reply other is =
+pub answer_kept : (s : State) (ask : TypedAsk) (reply : Reply) → is_loops ask.kind ≡ false → is_isolation ask.kind ≡ false
+    → IsAnswer (kept_ground s) ask reply → reply ≡ traced (kept_survey s) ask
+answer_kept s ask reply loops isolation is =
     is.is
     ∙ ap (trace_reply (kept_ground s) ask)
     (reached_here (kept_survey s) (kept_points s.kept) ask.barriers (mode_of ask.kind) ask.starts is.reached is.reach)
-    ∙ ap (λ b. if b then loops_reply (kept_ground s) ask (reached_from (kept_survey s) ask) else trace_reply (kept_ground s) ask (reached_from (kept_survey s) ask)) (sym other)
+    ∙ (λ i. reply_by (sym loops i) (sym isolation i) (kept_ground s) ask (reached_from (kept_survey s) ask))
 
 -- and so is that of one for loops
 pub loops_kept : (s : State) (ask : TypedAsk) (reply : Reply) → ask.kind ≡ kind.Loops → IsLoopsAnswer (kept_ground s) ask reply → reply ≡ traced (kept_survey s) ask
@@ -51,7 +60,15 @@ loops_kept s ask reply loops is =
     is.is
     ∙ ap (loops_reply (kept_ground s) ask)
     (reached_here (kept_survey s) (kept_points s.kept) ask.barriers Any ask.starts is.reached is.reach ∙ ap (λ k. reached (kept_survey s) ask.barriers (mode_of k) ask.starts) (sym loops))
-    ∙ ap (λ k. if is_loops k then loops_reply (kept_ground s) ask (reached_from (kept_survey s) ask) else trace_reply (kept_ground s) ask (reached_from (kept_survey s) ask)) (sym loops)
+    ∙ ap (λ k. reply_by (is_loops k) (is_isolation k) (kept_ground s) ask (reached_from (kept_survey s) ask)) (sym loops)
+
+-- and that of one for isolation
+pub isolation_kept : (s : State) (ask : TypedAsk) (reply : Reply) → ask.kind ≡ kind.Isolation → IsIsolationAnswer (kept_ground s) ask reply → reply ≡ traced (kept_survey s) ask
+isolation_kept s ask reply isolation is =
+    is.is
+    ∙ ap (isolation_reply (kept_ground s) ask)
+    (reached_here (kept_survey s) (kept_points s.kept) ask.barriers Any ask.starts is.reached is.reach ∙ ap (λ k. reached (kept_survey s) ask.barriers (mode_of k) ask.starts) (sym isolation))
+    ∙ ap (λ k. reply_by (is_loops k) (is_isolation k) (kept_ground s) ask (reached_from (kept_survey s) ask)) (sym isolation)
 
 -- what holds of a value by one clause and of a success by another
 pub both_ok : {A E : Type 0} (r : Result A E) (P Q : A → Type 0) (N : Type 0) → IfOk r P → OnOk r N → ((a : A) → P a → N → Q a) → IfOk r Q

@@ -25,5 +25,7 @@ pub mod Named
 pub mod Exact
 pub mod Logs
 pub mod Faithful
+pub mod StepLocality
 pub mod Stepping
 pub mod Taken
+pub mod Isolating

@@ -1,5 +1,5 @@
 -- Traces over the kept topology answer as over all features in consistent mode, and as over what the history leaves in either.
-use Rattle.std.proofs.Common.{◌≡◌, Bool, true, false, List, [], ◌∷◌, filter, find, slice_get, Option, None, Some, refl, sym, ap, ◌∙◌, inl, IsTrue, if◌then◌else◌, option_and_then}
+use Rattle.std.proofs.Common.{◌≡◌, Bool, true, false, List, [], ◌∷◌, filter, find, slice_get, Option, None, Some, refl, sym, ap, subst, ◌∙◌, inl, IsTrue, if◌then◌else◌, option_and_then}
 use Rattle.std.specs.declared.cmp.Ordering.{Ordering}
 use Rattle.std.specs.List.{list_any}
 use Rattle.std.specs.BTreeSet.{insert_key}
@@ -11,12 +11,15 @@ use Rattle.un_defs.specs.Orders.{rising, least, port_cmp, same_port}
 use Rattle.un_defs.specs.Ground.{Ground, entry, is_dirty}
 use Rattle.un_defs.specs.Reach.{IsReach, leads, dirt, area_cmp, areas_over, ports_under}
 use Rattle.un_defs.proofs.Rising.{Among, among_from-rising, among-insert_key}
-use Rattle.un_defs.proofs.Members.{among-map, among-filter, among_from-filter, among_from_list_any, list_any_from_among}
+use Rattle.un_defs.proofs.Members.{among_from_contains, among-map, among-filter, among_from-filter, among_from_list_any, list_any_from_among}
 use Rattle.un_ask.specs.declared.typed.TypedAsk.{TypedAsk}
 use Rattle.un_ask.specs.declared.reply.Reply.TheVariants.{Loops}
 use Rattle.un_trace.specs.TraceReply.{trace_reply, reply_given_dirt, mode_of}
 use Rattle.un_loops.specs.Answer.{loops_reply, loops_given_dirt}
 use Rattle.un_loops.proofs.SameLoops.{same_loops}
+use Rattle.un_isolate.specs.Answer.{isolation_reply}
+use Rattle.un_isolate.proofs.SameIsolation.{same_isolation}
+use Rattle.un_resolve.specs.Kinds.{is_isolation}
 use Rattle.un_ask.specs.declared.request.Command.{Command}
 use Rattle.un_tiers.specs.declared.setup.Setup.{Setup}
 use Rattle.un_core.specs.State.{State, kept_ground, fresh_ground_of}
@@ -24,7 +27,8 @@ use Rattle.un_core.specs.History.{after_all}
 use Rattle.un_core.specs.Cover.{IsState, MayAllHappen}
 use Rattle.un_core.specs.Answers.{is_loops, kept_survey, fresh_survey, reached_from, reply_over, traced}
 use Rattle.un_core.specs.HistoryAnswers.{history_survey}
-use Rattle.un_core.proofs.Asked.{kept_points}
+use Rattle.un_core.proofs.Asked.{kept_points, reply_by}
+use Rattle.un_core.proofs.Taken.{for_isolation}
 use Rattle.un_core.proofs.Grounds.{reached_reaches, reached_fresh, reached_reply, same_ground}
 use Rattle.un_core.proofs.HistoryKept.{kept_is_history}
 use Rattle.un_core.proofs.SameReply.{reply_agrees}
@@ -62,7 +66,7 @@ dirt_there G nodes n h dirty =
           ∙ ap (option_map (λ q. record { area = (area.0).0; port = q })) port.1,
     )
 
-no_dirt : (G : Ground) (nodes : List Node) → dirt G nodes ≡ None → (n : Node) → Among nodes n → is_dirty G n.at ≡ false
+pub no_dirt : (G : Ground) (nodes : List Node) → dirt G nodes ≡ None → (n : Node) → Among nodes n → is_dirty G n.at ≡ false
 no_dirt G nodes none n h = go (is_dirty G n.at) refl
   where
     none_some : (d : Dirt) → None ≡ Some d → ⊥
@@ -106,9 +110,19 @@ module _ (s : State) (ask : TypedAsk) where
       ∙ ap (λ segments. Loops segments 0) (same_loops K H refl ask.barriers nodes (same_entry is e))
       ∙ sym (ap (λ o. loops_given_dirt o H ask nodes) e)
 
+  isolation_same : IsState s → is_isolation ask.kind ≡ true → isolation_reply K ask nodes ≡ isolation_reply H ask nodes
+  isolation_same is isolation =
+      same_isolation K H ask nodes refl
+      (subst (λ m. IsReach (leads K ask.barriers m) ask.starts nodes) (ap mode_of (for_isolation ask.kind isolation).0) (kept_reach s ask))
+      (λ none n h. same_entry is none n (among_from_contains nodes n h))
+
   reply_same : IsState s → IsTrue ask.barriers.consistent → reply_over K ask nodes ≡ reply_over H ask nodes
-  reply_same is consistent =
-      λ i. if is_loops ask.kind then loops_same is (dirt K nodes) refl i else trace_same is consistent (dirt K nodes) refl i
+  reply_same is consistent = go (is_loops ask.kind) (is_isolation ask.kind) refl
+    where
+      go : (loops isolation : Bool) → is_isolation ask.kind ≡ isolation → reply_by loops isolation K ask nodes ≡ reply_by loops isolation H ask nodes
+      go true isolation e = loops_same is (dirt K nodes) refl
+      go false true e = isolation_same is e
+      go false false e = trace_same is consistent (dirt K nodes) refl
 
 -- in consistent mode the kept topology serves as well as all features: the result is the same, or the refusal for dirty ground
 pub fresh_trace : (s : State) (ask : TypedAsk) → IsState s → IsTrue ask.barriers.consistent → traced (kept_survey s) ask ≡ traced (fresh_survey s) ask

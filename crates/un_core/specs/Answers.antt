@@ -1,8 +1,9 @@
 -- What a query is answered.
 pub use Rattle.un_core.specs.Refusals.{refused}
-use Rattle.std.specs.Prelude.{◌≡◌, Contains, ℕ, ◌*◌, length, nat_lt, not, Bool, true, false, List, [], ◌∷◌, map, Option, None, Some, if◌then◌else◌}
+use Rattle.std.specs.Prelude.{◌≡◌, Contains, ℕ, length, nat_lt, Bool, true, false, List, [], ◌∷◌, map, Option, None, Some, if◌then◌else◌}
 use Rattle.std.specs.Option.{option_map_or}
 use Rattle.un_geom.specs.Rectangle.{Rectangle}
+use Rattle.un_schema.specs.Catalog.{Catalog}
 use Rattle.un_schema.specs.declared.place.Place.TheVariants as place
 use Rattle.un_defs.specs.declared.port.Node.{Node}
 use Rattle.un_defs.specs.Ground.{Ground}
@@ -23,7 +24,10 @@ use Rattle.un_ask.specs.declared.reply.Reply.{Reply}
 use Rattle.un_ask.specs.declared.reply.Reply.TheVariants as reply
 use Rattle.un_resolve.specs.Resolved.{resolved, resolving_refusal}
 use Rattle.un_trace.specs.TraceReply.{IsAnswerable, trace_reply, mode_of}
+use Rattle.un_resolve.specs.Kinds.{is_isolation}
+use Rattle.un_resolve.specs.Valves.{isolates}
 use Rattle.un_loops.specs.Answer.{IsForLoops, loops_reply}
+use Rattle.un_isolate.specs.Answer.{IsForIsolation, isolation_reply}
 use Rattle.un_core.specs.State.{State, kept_ground, fresh_ground_of}
 use Rattle.un_core.specs.Validation.{met}
 use Rattle.un_core.specs.Walked.{Survey, reached}
@@ -32,16 +36,6 @@ use Rattle.un_core.specs.Feature.{feature_of_row}
 
 -- ---- what is taken
 
--- traces of the kind are answered
-abbrev pub is_taken : TraceKind → Bool
-is_taken kind.Connected = true
-is_taken kind.Subnetwork = true
-is_taken kind.Controllers = true
-is_taken kind.Upstream = true
-is_taken kind.Downstream = true
-is_taken kind.Loops = true
-is_taken kind.Isolation = false
-
 -- what is asked is not answered
 abbrev pub untaken : Asked → Option Refusal
 untaken Version = None
@@ -49,7 +43,7 @@ untaken (Feature id) = None
 untaken (Dirty extent) = None
 untaken (Errors extent) = None
 untaken (Subnet tier subnet) = Some (refusal.BadRequest place.Ask)
-untaken (Trace ask) = refused_if (not (is_taken ask.kind)) (refusal.BadRequest place.Ask)
+untaken (Trace ask) = None
 
 -- the query wants a later version
 abbrev pub too_early : State → ℕ → Option Refusal
@@ -126,15 +120,23 @@ is_loops kind.Downstream = false
 is_loops kind.Loops = true
 is_loops kind.Isolation = false
 
+-- no start is on a device that isolates
+abbrev pub AreClear : Catalog → Features → TypedAsk → Type 0
+AreClear S F ask = (n : Node) → Contains ask.starts n → isolates S F ask.isolators n.port ≡ false
+
 -- what a trace over features has to have, so that it can be answered
-pub record MayWalk (F : Features) (ask : TypedAsk) : Type 0 where
+pub record MayWalk (S : Catalog) (F : Features) (ask : TypedAsk) : Type 0 where
   pub starts : (n : Node) → Contains ask.starts n → Contains (nodes F) n
   pub for_loops : is_loops ask.kind ≡ true → IsForLoops ask
-  pub for_other : is_loops ask.kind ≡ false → IsAnswerable ask.kind ask.barriers.tier
+  pub for_isolation : is_isolation ask.kind ≡ true → IsForIsolation ask × AreClear S F ask
+  pub for_other : is_loops ask.kind ≡ false → is_isolation ask.kind ≡ false → IsAnswerable ask.kind ask.barriers.tier
 
 -- the reply to a trace that reached these nodes, with version 0
 abbrev pub reply_over : Ground → TypedAsk → List Node → Reply
-reply_over G ask reached = if is_loops ask.kind then loops_reply G ask reached else trace_reply G ask reached
+reply_over G ask reached =
+    if is_loops ask.kind then loops_reply G ask reached
+    else if is_isolation ask.kind then isolation_reply G ask reached
+    else trace_reply G ask reached
 
 -- the answer of a trace over a topology, with version 0
 abbrev pub traced : Survey → TypedAsk → Reply
@@ -172,6 +174,6 @@ abbrev pub reached_by : State → Asked → List Node
 reached_by s (Trace ask) = reached_from (kept_survey s) (resolved s.setup s.features ask)
 reached_by s what = []
 
--- the most stars that are looked up for it: for each node that a trace reaches, one for the walk and one for the answer
+-- the most stars that are looked up for it: one for each node that a trace reaches
 abbrev pub most_look_ups : State → Query → ℕ
-most_look_ups s q = 2 * length (reached_by s q.what)
+most_look_ups s q = length (reached_by s q.what)

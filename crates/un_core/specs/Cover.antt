@@ -1,7 +1,9 @@
 -- What holds of every state, and what is to be shown of it.
-use Rattle.std.specs.Prelude.{◌≡◌, ◌≢◌, ◌<◌, List, [], ◌∷◌, All, Contains, IsTrue, ⊤}
+use Rattle.std.specs.Prelude.{◌≡◌, ◌≢◌, ◌<◌, List, [], ◌∷◌, All, Contains, IsTrue, IsFalse, ⊤}
+use Rattle.std.specs.List.{list_any}
 use Rattle.std.specs.List.Sorted.{IsStrictlySortedBy}
 use Rattle.un_geom.specs.declared.point.Point.{Point}
+use Rattle.un_geom.specs.Places.{covers}
 use Rattle.un_defs.specs.declared.port.Node.{Node}
 use Rattle.un_defs.specs.declared.link.Tie.{Tie}
 use Rattle.un_defs.specs.declared.edit.Edit.{Edit}
@@ -14,9 +16,9 @@ use Rattle.un_index.specs.Kept.{stars_of}
 use Rattle.un_ask.specs.declared.request.Command.{Command}
 use Rattle.un_ask.specs.declared.request.Command.TheVariants as command
 use Rattle.un_tiers.specs.declared.setup.Setup.{Setup}
-use Rattle.un_core.specs.State.{State, kept_ground}
+use Rattle.un_core.specs.State.{State, fresh_star, kept_ground}
 use Rattle.un_core.specs.Validation.{by_point}
-use Rattle.un_core.specs.Step.{setting, next_with, next_of, made_at, next_state}
+use Rattle.un_core.specs.Step.{setting, next_with, next_of, made_at, next_state, dirtied_by}
 use Rattle.un_core.specs.History.{after_all, dirty_after, kept_after}
 
 -- each path joins two nodes at one point
@@ -64,3 +66,8 @@ pub record IsOfHistory (S : Setup) (history : List Command) : Type 0 where
 
 abbrev pub HistoryLaw : Type 0
 HistoryLaw = (S : Setup) (history : List Command) → MayAllHappen S history → IsOfHistory S history
+
+-- a command changes the stars of the features only under the rectangles that it makes dirty
+abbrev pub StepLocalityLaw : Type 0
+StepLocalityLaw = (s : State) (c : Command) → IsState s → MayHappen s c → (p : Point) → IsFalse (list_any (λ r. covers r p) (dirtied_by s c))
+    → fresh_star (next_state s c) p ≡ fresh_star s p

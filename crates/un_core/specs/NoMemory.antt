@@ -1,6 +1,5 @@
 -- No reply of a network tells of want of memory: that is told apart from all replies.
 use Rattle.std.proofs.Common.{◌≢◌, ℕ, ◌+◌, ◌||◌, nat_lt, nat_le, not, length, if◌then◌else◌, Bool, true, false, List, [], ◌∷◌, Option, None, Some, option_map}
-use Rattle.std.specs.Prelude.{⊤}
 use Rattle.std.specs.Option.{option_map_or}
 use Rattle.un_geom.specs.Rectangle.{Rectangle}
 use Rattle.un_schema.specs.declared.place.Place.TheVariants as place
@@ -31,12 +30,16 @@ use Rattle.un_resolve.specs.Resolved.{resolved, resolving_refusal}
 use Rattle.un_resolve.proofs.NoMemory.{resolving_other}
 use Rattle.un_ask.specs.Replies.{IsNoMemory}
 use Rattle.un_loops.specs.Answer.{loops_reply, loops_given_dirt}
+use Rattle.un_isolate.specs.IsolationList.{first_in_the_way}
+use Rattle.un_isolate.specs.Answer.{isolation_of, isolation_given_way, isolation_given_dirt, isolation_reply}
+use Rattle.un_resolve.specs.Kinds.{is_isolation}
+use Rattle.un_defs.specs.declared.port.Port.{Port}
 use Rattle.un_trace.specs.TraceReply.{trace_reply, reply_given_dirt, lists_controllers, controllers_reply, result_reply}
 use Rattle.un_core.specs.State.{State, known}
 use Rattle.un_core.specs.Refusals.{numbers_refusal, too_many, beside_numbers, first_refused, most_areas, last_number}
 use Rattle.un_core.specs.Step.{made_at, id_of}
 use Rattle.un_core.specs.Commands.{is_known, unknown, known_refusal, command_refusal, refusal_reply, accepted, word_of, areas_of_edit, edit_reply, command_reply}
-use Rattle.un_core.specs.Answers.{Basis, answer_on, asked_on, traced_on, survey_for, reached_from, at_version, query_refusal, untaken, feature_reply, refused, is_taken, too_early, is_loops, reply_over}
+use Rattle.un_core.specs.Answers.{Basis, answer_on, asked_on, traced_on, survey_for, reached_from, at_version, query_refusal, untaken, feature_reply, refused, too_early, is_loops, reply_over}
 use Rattle.un_core.specs.Feature.{feature_of_row}
 
 -- ---- commands
@@ -111,7 +114,7 @@ untaken_other (asked.Feature id) = tt
 untaken_other (asked.Dirty extent) = tt
 untaken_other (asked.Errors extent) = tt
 untaken_other (asked.Subnet tier subnet) = λ e. cc
-untaken_other (asked.Trace ask) = other_where (not (is_taken ask.kind)) (refusal.BadRequest place.Ask) (λ e. cc)
+untaken_other (asked.Trace ask) = tt
 
 trace_other : (v : ℕ) (G : Ground) (ask : TypedAsk) (reached : List Node) → IsNoMemory (at_version v (trace_reply G ask reached))
 trace_other v G ask reached = go (if ask.barriers.consistent then dirt G reached else None)
@@ -131,12 +134,25 @@ loops_other v G ask reached = go (dirt G reached)
     go (Some d) = λ e. cc
     go None = tt
 
-reply_over_other : (v : ℕ) (G : Ground) (ask : TypedAsk) (reached : List Node) → IsNoMemory (at_version v (reply_over G ask reached))
-reply_over_other v G ask reached = go (is_loops ask.kind)
+isolation_other : (v : ℕ) (G : Ground) (ask : TypedAsk) (reached : List Node) → IsNoMemory (at_version v (isolation_reply G ask reached))
+isolation_other v G ask reached = go (dirt G reached)
   where
-    go : (b : Bool) → IsNoMemory (at_version v (if b then loops_reply G ask reached else trace_reply G ask reached))
-    go true = loops_other v G ask reached
-    go false = trace_other v G ask reached
+    in_the_way : (q : Option Port) → IsNoMemory (at_version v (isolation_given_way q (isolation_of G ask) reached))
+    in_the_way (Some q) = λ e. cc
+    in_the_way None = tt
+
+    go : (d : Option Dirt) → IsNoMemory (at_version v (isolation_given_dirt d G ask reached))
+    go (Some d) = λ e. cc
+    go None = in_the_way (first_in_the_way (isolation_of G ask) reached)
+
+reply_over_other : (v : ℕ) (G : Ground) (ask : TypedAsk) (reached : List Node) → IsNoMemory (at_version v (reply_over G ask reached))
+reply_over_other v G ask reached = go (is_loops ask.kind) (is_isolation ask.kind)
+  where
+    go : (loops isolation : Bool)
+        → IsNoMemory (at_version v (if loops then loops_reply G ask reached else if isolation then isolation_reply G ask reached else trace_reply G ask reached))
+    go true isolation = loops_other v G ask reached
+    go false true = isolation_other v G ask reached
+    go false false = trace_other v G ask reached
 
 feature_reply_other : (s : State) (id : ℕ) → IsNoMemory (feature_reply s id)
 feature_reply_other s id = go (row s.features id)

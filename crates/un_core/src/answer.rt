@@ -1,14 +1,16 @@
 //! What queries are answered.
-ghost use Rattle.std.specs.Prelude.{◌≡◌, ◌≢◌, ◌+◌, ◌*◌, ◌≤◌, true, length, None, Contains, IfOk, OnOk};
+ghost use Rattle.std.specs.Prelude.{◌≡◌, ◌≢◌, ◌+◌, ◌≤◌, length, None, Contains, IfOk, OnOk};
 ghost use Rattle.un_ask.specs.declared.query.Asked.TheVariants.{Trace};
 ghost use Rattle.un_defs.specs.declared.port.Node.{Node};
 ghost use Rattle.un_defs.specs.Ports.{nodes};
 ghost use Rattle.un_defs.specs.declared.refusal.Refusal.TheVariants.{Memory};
 ghost use Rattle.un_trace.specs.TraceReply.{IsAnswerable};
+ghost use Rattle.un_resolve.specs.Kinds.{is_isolation};
 ghost use Rattle.un_loops.specs.Answer.{IsForLoops};
+ghost use Rattle.un_isolate.specs.Answer.{IsForIsolation};
 ghost use Rattle.un_core.specs.Cover.{IsState};
 ghost use Rattle.un_core.specs.Listed.{errors_in};
-ghost use Rattle.un_core.specs.Answers.{is_taken, is_loops, MayWalk, untaken, query_refusal, refused, at_version, kept_survey, kept_basis, fresh_basis, reached_from, traced, trace_on, asked_on, answer_on, answer, reached_by, most_look_ups};
+ghost use Rattle.un_core.specs.Answers.{is_loops, AreClear, MayWalk, untaken, query_refusal, refused, at_version, kept_survey, kept_basis, fresh_basis, reached_from, traced, trace_on, asked_on, answer_on, answer, reached_by, most_look_ups};
 
 use crate::kept::Kept;
 use crate::net::Net;
@@ -16,18 +18,12 @@ use std::alloc::{AllocError, Global};
 use un_ask::{Areas, Asked, PlacedErrors, Query, Reply, TraceAsk, TraceKind, TypedAsk};
 use un_defs::Refusal;
 use un_geom::Rect;
+use un_isolate::isolate;
 use un_loops::loops;
 use un_resolve::resolve;
 use un_schema::Place;
 use un_steps::Steps;
 use un_trace::trace;
-
-/// Traces of the kind are answered.
-fn is_taken(kind: TraceKind) -> bool
-    ensures { result ≡ is_taken kind }
-{
-    !matches!(kind, TraceKind::Isolation)
-}
 
 /// A trace of the kind asks for loops.
 fn is_loops(kind: TraceKind) -> bool
@@ -36,16 +32,24 @@ fn is_loops(kind: TraceKind) -> bool
     matches!(kind, TraceKind::Loops)
 }
 
+/// A trace of the kind asks for isolation.
+fn is_isolation(kind: TraceKind) -> bool
+    ensures { result ≡ is_isolation kind }
+{
+    matches!(kind, TraceKind::Isolation)
+}
+
 /// Why what is asked is not answered.
 fn untaken(what: &Asked) -> Option<Refusal>
     ensures { result ≡ untaken what.now }
 {
     match what {
-        Asked::Version | Asked::Feature { .. } | Asked::Dirty { .. } | Asked::Errors { .. } => None,
-        Asked::Trace(ask) if is_taken(ask.kind) => None,
-        Asked::Subnet { .. } | Asked::Trace(_) => {
-            Some(Refusal::BadRequest { place: Place::Ask })
-        }
+        Asked::Version
+        | Asked::Feature { .. }
+        | Asked::Dirty { .. }
+        | Asked::Errors { .. }
+        | Asked::Trace(_) => None,
+        Asked::Subnet { .. } => Some(Refusal::BadRequest { place: Place::Ask }),
     }
 }
 
@@ -139,7 +143,7 @@ impl Net {
         requires kind { IsAnswerable ask.now.kind ask.now.barriers.tier }
         ensures reply { IfOk result (λ reply. reply ≡ traced (kept_survey self.now) ask.now) }
         ensures ticks { OnOk result
-            (steps.new ≤ steps.old + 2 * length (reached_from (kept_survey self.now) ask.now)) }
+            (steps.new ≤ steps.old + length (reached_from (kept_survey self.now) ask.now)) }
     {
         // For the proof alone.
         let _version = self.version();
@@ -158,12 +162,32 @@ impl Net {
         requires starts { (n : Node) → Contains ask.now.starts n → Contains (nodes self.now.features) n }
         ensures reply { IfOk result (λ reply. reply ≡ traced (kept_survey self.now) ask.now) }
         ensures ticks { OnOk result
-            (steps.new ≤ steps.old + 2 * length (reached_from (kept_survey self.now) ask.now)) }
+            (steps.new ≤ steps.old + length (reached_from (kept_survey self.now) ask.now)) }
     {
         // For the proof alone.
         let _version = self.version();
         let kept = self.kept();
         loops(alloc, &kept, ask, steps)
+    }
+
+    /// The answer of a trace for isolation over what is kept, with version 0.
+    fn isolation_kept<L>(
+        &self,
+        alloc: Global,
+        ask: &TypedAsk,
+        steps: &mut Steps<L>,
+    ) -> Result<Reply, AllocError>
+        requires kind { IsForIsolation ask.now }
+        requires starts { (n : Node) → Contains ask.now.starts n → Contains (nodes self.now.features) n }
+        requires clear { AreClear self.now.setup.schema self.now.features ask.now }
+        ensures reply { IfOk result (λ reply. reply ≡ traced (kept_survey self.now) ask.now) }
+        ensures ticks { OnOk result
+            (steps.new ≤ steps.old + length (reached_from (kept_survey self.now) ask.now)) }
+    {
+        // For the proof alone.
+        let _version = self.version();
+        let kept = self.kept();
+        isolate(alloc, &kept, ask, steps)
     }
 
     /// The answer of a trace by numbers and nodes, with version 0.
@@ -173,13 +197,15 @@ impl Net {
         ask: &TypedAsk,
         steps: &mut Steps<L>,
     ) -> Result<Reply, AllocError>
-        requires { MayWalk self.now.features ask.now }
+        requires { MayWalk self.now.setup.schema self.now.features ask.now }
         ensures reply { IfOk result (λ reply. reply ≡ traced (kept_survey self.now) ask.now) }
         ensures ticks { OnOk result
-            (steps.new ≤ steps.old + 2 * length (reached_from (kept_survey self.now) ask.now)) }
+            (steps.new ≤ steps.old + length (reached_from (kept_survey self.now) ask.now)) }
     {
         if is_loops(ask.kind) {
             self.loops_kept(alloc, ask, steps)
+        } else if is_isolation(ask.kind) {
+            self.isolation_kept(alloc, ask, steps)
         } else {
             self.trace_kept(alloc, ask, steps)
         }
@@ -203,10 +229,9 @@ impl Net {
         ask: &TraceAsk,
         steps: &mut Steps<L>,
     ) -> Result<Reply, AllocError>
-        requires { is_taken ask.now.kind ≡ true }
         ensures reply { IfOk result (λ reply. reply ≡ trace_on self.now (kept_basis self.now) ask.now) }
         ensures ticks { OnOk result
-            (steps.new ≤ steps.old + 2 * length (reached_by self.now (Trace ask.now))) }
+            (steps.new ≤ steps.old + length (reached_by self.now (Trace ask.now))) }
     {
         match resolve(alloc, self.facts.setup(), &self.facts, ask) {
             Ok(typed) => {
@@ -233,7 +258,7 @@ impl Net {
     ) -> Result<Reply, AllocError>
         requires taken { untaken what.now ≡ None }
         ensures reply { IfOk result (λ reply. reply ≡ asked_on self.now (kept_basis self.now) what.now) }
-        ensures ticks { OnOk result (steps.new ≤ steps.old + 2 * length (reached_by self.now what.now)) }
+        ensures ticks { OnOk result (steps.new ≤ steps.old + length (reached_by self.now what.now)) }
     {
         let version = self.version;
         match what {
@@ -254,10 +279,10 @@ impl Net {
 
     /// What a query is answered. It changes nothing.
     ///
-    /// In this order it is refused: `BadRequest` where it asks for a subnetwork or for a trace of isolation; `Ahead` where it wants
-    /// a later version; and then the query for a feature by `NoSuchFeature`, where none with the id is live, and a trace as `un_resolve`
-    /// refuses it, or by `DirtyGround`, in consistent mode where a dirty area covers a node that is reached. `steps` counts the stars that
-    /// are looked up. It answers an error only for want of memory.
+    /// In this order it is refused: `BadRequest` where it asks for a subnetwork; `Ahead` where it wants a later version; and then the query
+    /// for a feature by `NoSuchFeature`, where none with the id is live, and a trace as `un_resolve` refuses it, by `DirtyGround` in consistent
+    /// mode where a dirty area covers a node that is reached, or by `NotIsolable` where a controller cannot be cut off. `steps` counts the
+    /// stars that are looked up. It answers an error only for want of memory.
     pub fn answer<L>(
         &self,
         alloc: Global,

@@ -1,12 +1,18 @@
 //! What holds of every state, each as what a function ensures that does nothing.
 
 ghost use Rattle.un_core.specs.Commands.{StepLaw};
-ghost use Rattle.un_core.specs.Cover.{CoverLaw, HistoryLaw};
+ghost use Rattle.un_core.specs.Cover.{CoverLaw, HistoryLaw, StepLocalityLaw};
 ghost use Rattle.un_core.specs.Walks.{WalkLaw, TwoGroundsLaw};
 
 /// Each point that no dirty area covers has its fresh star, whatever commands were accepted.
 pub fn cover_is_kept()
     ensures { CoverLaw }
+{}
+
+/// A command, whether one edit, a batch or a validation, changes the stars of the features only under the rectangles that it makes dirty.
+#[tactic(auto, using(crate::proofs::StepLocality::steps_are_local))]
+pub fn steps_are_local()
+    ensures { StepLocalityLaw }
 {}
 
 /// The kept topology and the dirty areas are determined by the accepted commands.

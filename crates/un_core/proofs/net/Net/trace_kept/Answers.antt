@@ -7,7 +7,7 @@ use Rattle.un_walk.specs.Ticks.{IsLookedUpOnce}
 use Rattle.un_trace.specs.TraceReply.{IsAnswer, mode_of}
 use Rattle.un_core.specs.Answers.{kept_survey, reached_from}
 use Rattle.un_core.proofs.Asked.{answer_kept, kept_points}
-use Rattle.un_core.proofs.Taken.{no_loops}
+use Rattle.un_core.proofs.Taken.{no_loops, no_isolation}
 use Rattle.un_core.proofs.Grounds.{reached_reaches}
 use Rattle.un_core.proofs.net.Net.trace_kept.Goals as goal
 
@@ -16,7 +16,7 @@ returns-clause-reply g c =
     let s = c.args.self.now in
     let ask = c.args.ask.now in
     IfOk-weaker c.trace.result _ _
-    (λ reply is. answer_kept s ask reply (no_loops ask.kind ask.barriers.tier c.requires.kind)
+    (λ reply is. answer_kept s ask reply (no_loops ask.kind ask.barriers.tier c.requires.kind) (no_isolation ask.kind ask.barriers.tier c.requires.kind)
     (subst (λ (G : Ground). IsAnswer G ask reply)
     (λ i. record { stars = stars_of (c.kept-kept.ensures.stars i); areas = c.kept-kept.ensures.areas i }) is))
     c.trace.ensures.answer
