@@ -39,6 +39,6 @@ module _ (s : State) (is : IsState s) (ask : TypedAsk) (consistent : IsForIsolat
 
   pub is_fit : IsFit (kept_ground s) ask reached
   is_fit = record {
-    linked = kept_linked s.setup.schema s.features (kept_ground s) ask.barriers Any ask.starts reached is.sound is.cover consistent.consistent stand reach clean;
+    own_ports = (kept_linked s.setup.schema s.features (kept_ground s) ask.barriers Any ask.starts reached is.sound is.cover consistent.consistent stand reach clean).own_ports;
     clear = clear_starts;
   }

@@ -7,7 +7,7 @@ use Rattle.un_defs.specs.declared.walk.Dirt.{Dirt}
 use Rattle.un_defs.specs.declared.refusal.Refusal.TheVariants.{NotIsolable}
 use Rattle.un_defs.specs.Ground.{Ground}
 use Rattle.un_defs.specs.Reach.{IsReach, leads, dirt}
-use Rattle.un_defs.specs.Linked.{AreLinked}
+use Rattle.un_defs.specs.Linked.{HaveOwnPorts}
 use Rattle.un_ask.specs.declared.trace.TraceKind.TheVariants.{Isolation as IsolationKind}
 use Rattle.un_ask.specs.declared.typed.TypedAsk.{TypedAsk}
 use Rattle.un_ask.specs.declared.reply.Reply.{Reply}
@@ -32,9 +32,9 @@ pub record IsForIsolation (ask : TypedAsk) : Type 0 where
   pub tier : IsSome ask.barriers.tier
   pub isolators : IsSome ask.isolators
 
--- the reached nodes are linked as the answer needs it, and no start isolates
+-- no two reached nodes have one port, and no start isolates
 pub record IsFit (G : Ground) (ask : TypedAsk) (reached : List Node) : Type 0 where
-  pub linked : AreLinked G reached
+  pub own_ports : HaveOwnPorts reached
   pub clear : StartsAreClear (isolation_of G ask)
 
 -- so it is where the trace meets no dirt

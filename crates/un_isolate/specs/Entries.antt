@@ -1,16 +1,16 @@
 -- What the entries of reached nodes tell.
 use Rattle.std.specs.Prelude.{◌≡◌, ℕ, ◌==◌, Bool, true, false, not, ◌&&◌, ◌||◌, List, [], map, slice_get, Option, Some}
 use Rattle.std.specs.List.{list_any}
-use Rattle.std.specs.Option.{option_copied, option_map_or}
+use Rattle.std.specs.Option.{option_map_or}
 use Rattle.un_conds.specs.Conditions.{Condition}
 use Rattle.un_defs.specs.declared.port.Node.{Node}
 use Rattle.un_defs.specs.declared.link.LinkName.{LinkName}
 use Rattle.un_defs.specs.declared.link.Tie.{Tie}
 use Rattle.un_defs.specs.declared.star.Spot.{Spot}
 use Rattle.un_defs.specs.declared.walk.Barriers.{Barriers}
-use Rattle.un_defs.specs.Orders.{same_port, same_node}
+use Rattle.un_defs.specs.Orders.{same_node}
 use Rattle.un_defs.specs.Ground.{Ground, entry}
-use Rattle.un_defs.specs.Reach.{meets_condition, is_path}
+use Rattle.un_defs.specs.Reach.{is_path}
 use Rattle.un_walk.specs.declared.seen.Seen.{Seen}
 pub use Rattle.un_walk.specs.Seen.{spot_of, nodes_of, is_barrier_by}
 use Rattle.un_isolate.specs.Isolation.{isolates}

@@ -30,8 +30,8 @@
 //!
 //! # Why that is enough
 //!
-//! Three conditions stand on the call where no dirt is met: no two reached nodes have one port, each link stands at both its ends, and no start
-//! isolates. So the first walk stays among inner nodes until it comes to one of the border, and comes to each.
+//! Two conditions stand on the call where no dirt is met: no two reached nodes have one port, so a port tells its node, and no start isolates. So
+//! the first walk stays among inner nodes until it comes to one of the border, and comes to each.
 //!
 //! Let the walk back come to a node of the border. Then a walk goes from that node to a controller, and none of the nodes after it is of the
 //! border. Inner nodes lead from a start to the node, since it is of the border. The two together are a walk that has its port as the only one

@@ -38,7 +38,6 @@
 //! takes n log n comparisons.
 #![tactic(auto)]
 
-pub mod barriers;
 mod dirt;
 mod entries;
 mod found;
@@ -47,6 +46,5 @@ mod site;
 mod traversal;
 pub mod walk;
 
-pub use barriers::entry_unless_barrier;
 pub use seen::Seen;
 pub use walk::{Reached, ReachedSeen, reach, reach_seen};

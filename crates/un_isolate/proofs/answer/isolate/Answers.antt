@@ -1,4 +1,4 @@
-use Rattle.std.proofs.Common.{◌≡◌, ◌+◌, ◌≤◌, length, sym, ap, subst, arith}
+use Rattle.std.proofs.Common.{◌≡◌, length, ap, subst, arith}
 use Rattle.std.proofs.lemmas.List.{length-map}
 use Rattle.un_defs.specs.Reach.{IsReach, leads}
 use Rattle.un_defs.specs.declared.walk.Mode.TheVariants.{Any}

@@ -26,7 +26,7 @@ returns-in-Some g c =
     let network : Network = c.in_ok-network.network in
     let zone : List Bool = c.in_ok-zone.zone.items in
     let is : IsNetworkOf I reached network = c.in_ok-network.ensures in
-    let basis : IsBasis I reached = record { reach = c.requires.reach; own_ports = c.requires.fit.linked.own_ports; clear = c.requires.fit.clear } in
+    let basis : IsBasis I reached = record { reach = c.requires.reach; own_ports = c.requires.fit.own_ports; clear = c.requires.fit.clear } in
     let spread : AreReached network.onward.items network.starts.items network.isolating.items zone =
     subst (λ (l : List (SmallVec ℕ)). AreReached l network.starts.items network.isolating.items zone) c.deref.ensures.value
     (subst₂ (λ (starts : List Bool) (closed : List Bool). AreReached c.deref.result.now starts closed zone) c.deref-2.ensures.value c.deref-3.ensures.value c.in_ok-zone.ensures) in
@@ -47,7 +47,7 @@ returns g c =
     let network : Network = c.in_ok-network.network in
     let zone : List Bool = c.in_ok-zone.zone.items in
     let is : IsNetworkOf I reached network = c.in_ok-network.ensures in
-    let basis : IsBasis I reached = record { reach = c.requires.reach; own_ports = c.requires.fit.linked.own_ports; clear = c.requires.fit.clear } in
+    let basis : IsBasis I reached = record { reach = c.requires.reach; own_ports = c.requires.fit.own_ports; clear = c.requires.fit.clear } in
     let spread : AreReached network.onward.items network.starts.items network.isolating.items zone =
     subst (λ (l : List (SmallVec ℕ)). AreReached l network.starts.items network.isolating.items zone) c.deref.ensures.value
     (subst₂ (λ (starts : List Bool) (closed : List Bool). AreReached c.deref.result.now starts closed zone) c.deref-2.ensures.value c.deref-3.ensures.value c.in_ok-zone.ensures) in

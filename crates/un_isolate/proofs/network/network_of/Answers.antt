@@ -1,9 +1,6 @@
-use Rattle.std.proofs.Common.{List, map, length, ap, subst, ◌∙◌}
+use Rattle.std.proofs.Common.{List, map, ap, ◌∙◌}
 use Rattle.un_defs.specs.declared.port.Node.{Node}
-use Rattle.un_walk.specs.declared.seen.Seen.{Seen}
 use Rattle.un_isolate.specs.IsolationList.{has_node}
-use Rattle.un_isolate.specs.Links.{AreLinksOf}
-use Rattle.un_isolate.specs.Entries.{isolates_by, is_controlled_by}
 use Rattle.un_isolate.proofs.OverGround.{network_is}
 use Rattle.un_isolate.proofs.network.network_of.Goals as goal
 
