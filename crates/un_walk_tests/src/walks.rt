@@ -1,8 +1,8 @@
 //! Walks through a pump between two mains.
 //!
 //! The contract of a walk bounds its count of steps, and no clause says that each look-up of a star is counted. So this ground, a list,
-//! counts how often it is asked. Each test has the number worked out by hand: one for each node at which the walk reads the entry, and so
-//! at most one for each node that it reaches; and one more for each path to another point whose far controller is asked for.
+//! counts how often it is asked. Each test has the number worked out by hand: one for each node that stands at another point than the node
+//! that was taken before it; and one more for each path to another point whose far controller is asked for.
 
 ghost use Rattle.std.specs.Prelude.{◌≡◌, true, false, pos, find, [], ◌∷◌, if◌then◌else◌, codes};
 ghost use Rattle.std.specs.Option.{option_copied, option_map_or};
@@ -292,7 +292,7 @@ fn flow_leads_downstream_through_the_pump(rt: HostRuntime) -> Result<(), Fail> {
     ];
     assert_eq!(rt; reached.nodes.as_slice(), all.as_slice());
     assert_eq!(rt; reached.dirt, None);
-    assert_eq!(rt; over.asked.get(), 6);
+    assert_eq!(rt; over.asked.get(), 3);
     Ok(())
 }
 
@@ -315,7 +315,7 @@ fn flow_comes_from_upstream(rt: HostRuntime) -> Result<(), Fail> {
         node(3, 1, -10),
     ];
     assert_eq!(rt; reached.nodes.as_slice(), all.as_slice());
-    assert_eq!(rt; over.asked.get(), 5);
+    assert_eq!(rt; over.asked.get(), 2);
     Ok(())
 }
 
@@ -350,7 +350,7 @@ fn dirt_is_reached_and_named(rt: HostRuntime) -> Result<(), Fail> {
             port: node(2, 1, 10).port
         })
     );
-    assert_eq!(rt; over.asked.get(), 5);
+    assert_eq!(rt; over.asked.get(), 3);
     Ok(())
 }
 
@@ -358,7 +358,7 @@ fn dirt_is_reached_and_named(rt: HostRuntime) -> Result<(), Fail> {
 fn dirt_stops_a_consistent_walk_alone(rt: HostRuntime) -> Result<(), Fail> {
     let alloc = rt.alloc();
     let over = pumped(alloc, true)?;
-    for (consistent, nodes, asked) in [(true, 1, 0), (false, 6, 6)] {
+    for (consistent, nodes, asked) in [(true, 1, 1), (false, 6, 3)] {
         let mut within = barriers(Vec::new(alloc));
         within.consistent = consistent;
         over.asked.set(0);
@@ -389,7 +389,7 @@ fn a_condition_ends_the_walk(rt: HostRuntime) -> Result<(), Fail> {
         over.asked.set(0);
         let reached = walked(alloc, &over, node(3, 1, -10), Mode::Any, within)?;
         assert_eq!(rt; reached.nodes.as_slice(), all.as_slice());
-        assert_eq!(rt; over.asked.get(), 4);
+        assert_eq!(rt; over.asked.get(), 2);
     }
     Ok(())
 }
