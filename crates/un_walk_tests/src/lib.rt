@@ -1,8 +1,12 @@
-//! Tests of walks, traces and loops over small grounds.
+//! Tests of walks and of traces over small grounds.
 #![tactic(auto)]
 
 #[cfg(test)]
+mod isolation;
+#[cfg(test)]
 mod loops;
+#[cfg(test)]
+mod pipes;
 #[cfg(test)]
 mod traces;
 #[cfg(test)]
