@@ -1,0 +1,14 @@
+pub mod Alike
+pub mod AloneReach
+pub mod Checks
+pub mod Either
+pub mod Growing
+pub mod MadeDirty
+pub mod NoMemory
+pub mod Pairwise
+pub mod SameStar
+pub mod Searching
+pub mod Sorting
+pub mod Starts
+pub mod TiesAlike
+pub mod TwoGrounds
