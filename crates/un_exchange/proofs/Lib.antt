@@ -1,0 +1,5 @@
+mod Texts
+mod Writes
+mod Handling
+mod Linking
+mod Ending

@@ -1,0 +1,5 @@
+pub mod Pages
+pub mod Exchanges
+pub mod Writing
+pub mod Handling
+pub mod Links

@@ -1,0 +1,12 @@
+//! What a request asks for.
+
+use crate::page::Page;
+
+/// What a request asks for.
+#[derive(Drop)]
+pub enum Asked<C, Q> {
+    /// It asks nothing of the session, and this is its response.
+    Page(Page),
+    Command(C),
+    Query(Q),
+}

@@ -1,0 +1,104 @@
+-- What turns report is true of the entries that the session has seen in the end.
+use Rattle.std.proofs.Common.{◌≡◌, ◌⊎◌, ◌≤◌, ℕ, true, false, List, [], ◌∷◌, length, take, refl, ap, sym, ◌∙◌, subst, inl, inr, arith}
+use Rattle.std.specs.Arc.{arc_value}
+use Rattle.std.proofs.lemmas.List.{take-append-le, take_all, length-take}
+use mathlib.Core.List.{IsPrefix}
+use Rattle.un_machine.specs.declared.Entry.{Entry}
+use Rattle.un_machine.specs.Logs.{Reaches}
+use Rattle.un_publish.specs.Models.{SessionModel}
+use Rattle.un_publish.specs.declared.session.View.{View}
+use Rattle.un_publish.specs.declared.session.SessionFault.TheVariants.{Denied as Refused, Memory}
+use Rattle.un_turns.proofs.Prefixes.{prefix_length}
+use Rattle.un_journal.specs.Books.{JournalModel, entry}
+use Rattle.un_journal.specs.declared.receipt.Receipt.{Receipt}
+use Rattle.un_desk.specs.Desks.{IsSubmitted, counted}
+use Rattle.un_desk.specs.declared.desk.ViewFault.{ViewFault}
+use Rattle.un_desk.specs.declared.desk.ViewFault.TheVariants.{Ahead, Denied as NotTaught, Memory as NoMemory}
+use Rattle.un_turns.specs.Turns.{Turn, Passed, Decided, Undecided, Answered, Unanswered, IsTurn, IsRead, IsAnswered, IsUnanswered}
+use Rattle.un_turns.specs.Conversations.{Conversed, IsDecidedAt, IsLastEntry, IsAheadOf, IsTrueTurn, AreTrueTurns, TrueTurnsLaw}
+use Rattle.un_turns.proofs.Turning.{turn_number, all_seen}
+
+take_prefix : {A : Type 0} (n : ℕ) (xs ys : List A) → IsPrefix xs ys → n ≤ length xs → take n ys ≡ take n xs
+take_prefix n xs ys p le = ap (λ l. take n l) (sym p.1) ∙ take-append-le n xs p.0 le
+
+take_whole : {A : Type 0} (n : ℕ) (xs : List A) → n ≡ length xs → take n xs ≡ xs
+take_whole n xs e = take_all n xs (omega (arith, e))
+
+-- what is true of a beginning of the log stays true
+ahead_longer : (n k l : ℕ) (f : ViewFault) → k ≤ l → IsAheadOf n k f → IsAheadOf n l f
+ahead_longer n k l (Ahead a) le h = (h.0, omega (arith, h.1, le), h.2)
+ahead_longer n k l (NotTaught d) le h = tt
+ahead_longer n k l NoMemory le h = tt
+
+module _ {M C R H K : Type 0} (step : M → C → (M × (R × K)) ⊎ R) (opening : List M) where
+  decided_holds : (s t : SessionModel M C R H K) (cmd : C) (r : Receipt M C R H K) → IsSubmitted step opening s t cmd r
+      → IsDecidedAt step opening s.number (take r.version t.seen) cmd r
+  decided_holds s t cmd r h =
+      let now : take r.version t.seen ≡ h.after.log =
+      ap (λ (l : List (Entry M C R H K)). take r.version l) h.receipt.seen ∙ take_whole r.version h.after.log h.receipt.version in
+      let here : IsDecidedAt step opening s.number h.after.log cmd r = record {
+        version = h.receipt.version;
+        view = h.receipt.view;
+        reaches = subst (λ (z : M). Reaches step opening h.after.log z) (sym h.receipt.state) h.reaches;
+        decided = elim h.receipt.decided as (λ _. ((r.accepted ≡ true) × IsLastEntry s.number h.after.log cmd r.reply) ⊎ ((r.accepted ≡ false) × (step (arc_value r.view.state) cmd ≡ inr r.reply))) [
+          | inl d ↦ inl (d.0, record { before = h.before.log; entry = entry h.before.log s.number cmd r.reply d.1.mark; last = d.1.log; session = refl; same_cmd = refl; same_reply = refl })
+          | inr d ↦ inr (d.0, ap (λ (z : M). step z cmd) (h.receipt.state ∙ ap (λ (j : JournalModel M C R H K). j.state) d.1.same) ∙ d.1.steps)
+        ];
+      } in
+      subst (λ (l : List (Entry M C R H K)). IsDecidedAt step opening s.number l cmd r) (sym now) here
+
+  pub decided_here : (s t : SessionModel M C R H K) (cmd : C) (r : Receipt M C R H K) → IsSubmitted step opening s t cmd r → IsDecidedAt step opening s.number t.seen cmd r
+  decided_here s t cmd r h =
+      let whole : take r.version t.seen ≡ t.seen = take_whole r.version t.seen (h.receipt.version ∙ ap length (sym h.receipt.seen)) in
+      subst (λ (l : List (Entry M C R H K)). IsDecidedAt step opening s.number l cmd r) whole (decided_holds s t cmd r h)
+
+  read_holds : (s t : SessionModel M C R H K) (v : View M) → IsRead step opening s t v → (v.version ≤ length t.seen) × Reaches step opening (take v.version t.seen) (arc_value v.state)
+  read_holds s t v r = (
+    omega (arith, r.version),
+    subst (λ (l : List (Entry M C R H K)). Reaches step opening l (arc_value v.state)) (sym (take_whole v.version t.seen r.version)) r.reaches,
+  )
+
+  answered_holds : (s t : SessionModel M C R H K) (n : ℕ) (v : View M) → IsAnswered step opening s t n v
+      → (n ≤ v.version) × (v.version ≤ length t.seen) × Reaches step opening (take v.version t.seen) (arc_value v.state)
+  answered_holds s t n v h =
+      let facts : (v.version ≤ length t.seen) × Reaches step opening (take v.version t.seen) (arc_value v.state) =
+      elim h.1 as (λ _. (v.version ≤ length t.seen) × Reaches step opening (take v.version t.seen) (arc_value v.state)) [
+        | inl r ↦ read_holds s t v r
+        | inr w ↦ read_holds (counted w.0) t v w.2
+      ] in
+      (h.0, facts.0, facts.1)
+
+  unanswered_holds : (s t : SessionModel M C R H K) (n : ℕ) (f : ViewFault) → IsUnanswered step opening s t n f → IsAheadOf n (length t.seen) f
+  unanswered_holds s t n (NotTaught d) h = tt
+  unanswered_holds s t n NoMemory h = tt
+  unanswered_holds s t n (Ahead a) (inl (Refused d, e, r, p)) = absurd (cc e)
+  unanswered_holds s t n (Ahead a) (inl (Memory, e, r, p)) = absurd (cc e)
+  unanswered_holds s t n (Ahead a) (inr (m, o, v, p)) = (v.0.0, omega (arith, v.0.1), omega (arith, v.0.1, v.0.2))
+
+module _ {M C R H K Q : Type 0} (step : M → C → (M × (R × K)) ⊎ R) (opening : List M) (least : Q → ℕ) where
+  turn_holds : (s t : SessionModel M C R H K) (u : Turn M C R H K Q) → IsTurn step opening least s u t → IsTrueTurn step opening least s.number t.seen u
+  turn_holds s t Passed h = tt
+  turn_holds s t (Decided cmd r) h = decided_holds step opening s t cmd r h
+  turn_holds s t (Undecided cmd f) h = tt
+  turn_holds s t (Answered query v) h = answered_holds step opening s t (least query) v h
+  turn_holds s t (Unanswered query f) h = unanswered_holds step opening s t (least query) f h
+
+  holds_longer : (number : ℕ) (xs ys : List (Entry M C R H K)) (u : Turn M C R H K Q) → IsPrefix xs ys → IsTrueTurn step opening least number xs u → IsTrueTurn step opening least number ys u
+  holds_longer number xs ys Passed p h = tt
+  holds_longer number xs ys (Decided cmd r) p h =
+      let le : r.version ≤ length xs = let e = h.version ∙ length-take r.version xs in omega (arith, e) in
+      subst (λ (l : List (Entry M C R H K)). IsDecidedAt step opening number l cmd r) (sym (take_prefix r.version xs ys p le)) h
+  holds_longer number xs ys (Undecided cmd f) p h = tt
+  holds_longer number xs ys (Answered query v) p h =
+      let longer = prefix_length xs ys p in
+      (h.0, omega (arith, h.1, longer), subst (λ (l : List (Entry M C R H K)). Reaches step opening l (arc_value v.state)) (sym (take_prefix v.version xs ys p h.1)) h.2)
+  holds_longer number xs ys (Unanswered query f) p h = ahead_longer (least query) (length xs) (length ys) f (prefix_length xs ys p) h
+
+  hold_on : (number : ℕ) (s t : SessionModel M C R H K) (us : List (Turn M C R H K Q)) → s.number ≡ number → Conversed step opening least s us t → AreTrueTurns step opening least number t.seen us
+  hold_on number s t [] e h = tt
+  hold_on number s t (u ∷ us) e h =
+      let here : IsTrueTurn step opening least number h.0.seen u = subst (λ (n : ℕ). IsTrueTurn step opening least n h.0.seen u) e (turn_holds s h.0 u h.1) in
+      (holds_longer number h.0.seen t.seen u (all_seen step opening least h.0 t us h.2) here, hold_on number h.0 t us (turn_number step opening least s h.0 u h.1 ∙ e) h.2)
+
+  pub all_hold : TrueTurnsLaw H step opening least
+  all_hold s t us h = hold_on s.number s t us refl h

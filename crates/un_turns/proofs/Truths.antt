@@ -1,0 +1,196 @@
+-- What the turns do and tell, said of the requests and responses.
+use Rattle.un_publish.specs.Models.{SessionModel}
+use Rattle.std.proofs.Common.{◌≡◌, ◌⊎◌, ◌≤◌, ◌+◌, ◌-◌, ◌^◌, ℕ, min, Bool, true, false, List, [], ◌∷◌, ◌++◌, length, take, refl, ap, sym, ◌∙◌, subst, inl, inr, arith}
+use Rattle.std.specs.Prelude.{flat_map}
+use Rattle.std.specs.Arc.{arc_value}
+use Rattle.un_machine.specs.declared.Entry.{Entry}
+use Rattle.un_publish.specs.declared.session.SessionFault.{SessionFault}
+use Rattle.un_publish.specs.declared.session.SessionFault.TheVariants.{Denied as Refusing, Memory as NoMemory}
+use Rattle.un_journal.specs.declared.receipt.Receipt.{Receipt}
+use Rattle.un_desk.specs.declared.desk.ViewFault.{ViewFault}
+use Rattle.un_desk.specs.declared.desk.ViewFault.TheVariants.{Ahead as BehindView, Denied as NotTaught, Memory as NoView}
+use Rattle.un_turns.specs.declared.request.Request.{Request}
+use Rattle.un_turns.specs.declared.request.Request.TheVariants.{Other, Command, Query}
+use Rattle.un_turns.specs.declared.request.Response.{Response}
+use Rattle.un_turns.specs.declared.request.Response.TheVariants.{Nothing, Answer, Ahead, Memory}
+use Rattle.un_turns.specs.Turns.{Turn, Passed, Decided, Undecided, Answered, Unanswered, IsTurn, IsAnswered, IsUnanswered}
+use Rattle.un_publish.specs.declared.session.View.{View}
+use Rattle.un_turns.proofs.Holding.{decided_here}
+use Rattle.un_turns.specs.Conversations.{IsTrueTurn, AreTrueTurns, IsDecidedAt, Rises, versions_of, accepted_of, denials_of, denials, waits_of, waits_due, known_after, decision, Conversed}
+use Rattle.un_turns.specs.Served.{Exchange, requests_of, turns_of, responses_of, IsResponseOf, AreResponses, receipt_response, fault_response, view_response}
+use Rattle.un_turns.specs.Truths.{versions_in, denials_in, known_in, waits_in, accepted_in, all_accepted, all_waits, all_denials, IsTrueOf, AreTrueOf, IsTrueAt, AreTrueFrom, IsTruthful, TruthLaw}
+use Rattle.un_turns.proofs.Turning.{all_seen, versions_rise, turn_seen, turn_number}
+use Rattle.un_turns.proofs.Owning.{all_grow}
+use Rattle.un_turns.proofs.Waiting.{waits_bounded}
+use Rattle.un_turns.proofs.Denying.{denials_counted}
+use Rattle.un_turns.proofs.Holding.{all_hold}
+
+-- what a response says of versions, denials and what is known is what the turn does
+pub record Agrees {M C R H K Q A : Type 0} (x : Exchange M C R H K Q A) : Type 0 where
+  pub versions : versions_in x.response ≡ versions_of x.turn
+  pub denials : denials_in x.response ≡ denials_of x.turn
+  pub known : (known : ℕ) → known_in known x.response ≡ known_after known x.turn
+  pub accepted : accepted_in x.request x.response ≡ accepted_of x.turn
+  pub waits : (least : Q → ℕ) (known : ℕ) → waits_of least known x.turn ≤ waits_in least known x.request
+
+module _ {M C R H K Q A : Type 0} where
+  abbrev exchange : Request C Q → Turn M C R H K Q → Response R A → Exchange M C R H K Q A
+  exchange request turn response = record { request = request; turn = turn; response = response }
+
+  -- a decided command, by whether it was accepted
+  decided_agrees : (cmd : C) (r : Receipt M C R H K) (b : Bool) → r.accepted ≡ b → Agrees (exchange (Command cmd) (Decided cmd r) (receipt_response r))
+  decided_agrees cmd r true e = rw e (record { versions = refl; denials = refl; known = λ k. refl; accepted = refl; waits = λ l k. omega arith })
+  decided_agrees cmd r false e = rw e (record { versions = refl; denials = refl; known = λ k. refl; accepted = refl; waits = λ l k. omega arith })
+
+  undecided_agrees : (cmd : C) (f : SessionFault) → Agrees (exchange (Command cmd) (Undecided cmd f) (fault_response f))
+  undecided_agrees cmd (Refusing d) = record { versions = refl; denials = refl; known = λ k. refl; accepted = refl; waits = λ l k. omega arith }
+  undecided_agrees cmd NoMemory = record { versions = refl; denials = refl; known = λ k. refl; accepted = refl; waits = λ l k. omega arith }
+
+  unanswered_agrees : (query : Q) (f : ViewFault) → Agrees (exchange (Query query) (Unanswered query f) (view_response f))
+  unanswered_agrees query (BehindView a) = record { versions = refl; denials = refl; known = λ k. refl; accepted = refl; waits = λ l k. omega arith }
+  unanswered_agrees query (NotTaught d) = record { versions = refl; denials = refl; known = λ k. refl; accepted = refl; waits = λ l k. omega arith }
+  unanswered_agrees query NoView = record { versions = refl; denials = refl; known = λ k. refl; accepted = refl; waits = λ l k. omega arith }
+
+  memory_agrees : (request : Request C Q) → Agrees (exchange request Passed Memory)
+  memory_agrees Other = record { versions = refl; denials = refl; known = λ k. refl; accepted = refl; waits = λ l k. omega arith }
+  memory_agrees (Command cmd) = record { versions = refl; denials = refl; known = λ k. refl; accepted = refl; waits = λ l k. omega arith }
+  memory_agrees (Query query) = record { versions = refl; denials = refl; known = λ k. refl; accepted = refl; waits = λ l k. omega arith }
+
+  -- an exchange at an equal request and an equal response
+  same_exchange : (P : Exchange M C R H K Q A → Type 0) (q q' : Request C Q) (u : Turn M C R H K Q) (r r' : Response R A) → q ≡ q' → r ≡ r' → P (exchange q' u r') → P (exchange q u r)
+  same_exchange P q q' u r r' e d p = subst (λ (z : Request C Q). P (exchange z u r)) (sym e) (subst (λ (z : Response R A). P (exchange q' u z)) (sym d) p)
+
+  agrees : (answer : M → Q → A) (q : Request C Q) (u : Turn M C R H K Q) (r : Response R A) → IsResponseOf answer q u r → Agrees (exchange q u r)
+  agrees answer q Passed r (inl h) = same_exchange (λ x. Agrees x) q Other Passed r Nothing h.0 h.1 (record { versions = refl; denials = refl; known = λ k. refl; accepted = refl; waits = λ l k. omega arith })
+  agrees answer q Passed r (inr h) = same_exchange (λ x. Agrees x) q q Passed r Memory refl h (memory_agrees q)
+  agrees answer q (Decided cmd d) r h = same_exchange (λ x. Agrees x) q (Command cmd) (Decided cmd d) r (receipt_response d) h.0 h.1 (decided_agrees cmd d d.accepted refl)
+  agrees answer q (Undecided cmd f) r h = same_exchange (λ x. Agrees x) q (Command cmd) (Undecided cmd f) r (fault_response f) h.0 h.1 (undecided_agrees cmd f)
+  agrees answer q (Answered query v) r h = same_exchange (λ x. Agrees x) q (Query query) (Answered query v) r (Answer v.version (answer (arc_value v.state) query)) h.0 h.1 (record { versions = refl; denials = refl; known = λ k. refl; accepted = refl; waits = λ l k. omega arith })
+  agrees answer q (Unanswered query f) r h = same_exchange (λ x. Agrees x) q (Query query) (Unanswered query f) r (view_response f) h.0 h.1 (unanswered_agrees query f)
+
+  -- the same over all exchanges
+  all_versions : (answer : M → Q → A) (xs : List (Exchange M C R H K Q A)) → AreResponses answer xs → flat_map versions_in (responses_of xs) ≡ flat_map versions_of (turns_of xs)
+  all_versions answer [] h = refl
+  all_versions answer (x ∷ xs) h =
+      let one = agrees answer x.request x.turn x.response h.0 in
+      ap (λ (l : List ℕ). l ++ flat_map versions_in (responses_of xs)) one.versions ∙ ap (λ (l : List ℕ). versions_of x.turn ++ l) (all_versions answer xs h.1)
+
+  accepted_all : (answer : M → Q → A) (xs : List (Exchange M C R H K Q A)) → AreResponses answer xs → flat_map accepted_of (turns_of xs) ≡ all_accepted (requests_of xs) (responses_of xs)
+  accepted_all answer [] h = refl
+  accepted_all answer (x ∷ xs) h =
+      let one = agrees answer x.request x.turn x.response h.0 in
+      ap (λ (l : List (C × R)). l ++ flat_map accepted_of (turns_of xs)) (sym one.accepted) ∙ ap (λ (l : List (C × R)). accepted_in x.request x.response ++ l) (accepted_all answer xs h.1)
+
+  denials_all : (answer : M → Q → A) (xs : List (Exchange M C R H K Q A)) → AreResponses answer xs → denials (turns_of xs) ≡ all_denials (responses_of xs)
+  denials_all answer [] h = refl
+  denials_all answer (x ∷ xs) h =
+      let one = agrees answer x.request x.turn x.response h.0 in
+      omega (arith, one.denials, denials_all answer xs h.1)
+
+  waits_all : (answer : M → Q → A) (least : Q → ℕ) (known : ℕ) (xs : List (Exchange M C R H K Q A)) → AreResponses answer xs → waits_due least known (turns_of xs) ≤ all_waits least known (requests_of xs) (responses_of xs)
+  waits_all answer least known [] h = omega arith
+  waits_all answer least known (x ∷ xs) h =
+      let one = agrees answer x.request x.turn x.response h.0 in
+      let rest : waits_due least (known_after known x.turn) (turns_of xs) ≤ all_waits least (known_in known x.response) (requests_of xs) (responses_of xs) =
+      subst (λ (k : ℕ). waits_due least (known_after known x.turn) (turns_of xs) ≤ all_waits least k (requests_of xs) (responses_of xs)) (sym (one.known known)) (waits_all answer least (known_after known x.turn) xs h.1) in
+      omega (arith, one.waits least known, rest)
+
+module _ {M C R H K Q A : Type 0} (step : M → C → (M × (R × K)) ⊎ R) (opening : List M) (least : Q → ℕ) (answer : M → Q → A) (number : ℕ) (seen : List (Entry M C R H K)) where
+  decided_true : (cmd : C) (r : Receipt M C R H K) → IsDecidedAt step opening number (take r.version seen) cmd r → IsTrueOf step opening least answer number seen (Command cmd) (receipt_response r)
+  decided_true cmd r h =
+      elim h.decided as (λ _. IsTrueOf step opening least answer number seen (Command cmd) (receipt_response r)) [
+        | inl d ↦ rw d.0 (cmd, arc_value r.view.state, refl, h.version, h.reaches, d.1)
+        | inr d ↦ rw d.0 (cmd, arc_value r.view.state, refl, h.version, h.reaches, d.1)
+      ]
+
+  undecided_true : (cmd : C) (f : SessionFault) → IsTrueOf step opening least answer number seen (Command cmd) (fault_response f)
+  undecided_true cmd (Refusing d) = tt
+  undecided_true cmd NoMemory = tt
+
+  true_of : (q : Request C Q) (u : Turn M C R H K Q) (r : Response R A) → IsResponseOf answer q u r → IsTrueTurn step opening least number seen u → IsTrueOf step opening least answer number seen q r
+  true_of q Passed r (inl h) t = subst (λ (z : Response R A). IsTrueOf step opening least answer number seen q z) (sym h.1) h.0
+  true_of q Passed r (inr h) t = subst (λ (z : Response R A). IsTrueOf step opening least answer number seen q z) (sym h) tt
+  true_of q (Decided cmd d) r h t =
+      same_exchange (λ (x : Exchange M C R H K Q A). IsTrueOf step opening least answer number seen x.request x.response) q (Command cmd) (Decided cmd d) r (receipt_response d) h.0 h.1 (decided_true cmd d t)
+  true_of q (Undecided cmd f) r h t =
+      same_exchange (λ (x : Exchange M C R H K Q A). IsTrueOf step opening least answer number seen x.request x.response) q (Command cmd) (Undecided cmd f) r (fault_response f) h.0 h.1 (undecided_true cmd f)
+  true_of q (Answered query v) r h t =
+      same_exchange (λ (x : Exchange M C R H K Q A). IsTrueOf step opening least answer number seen x.request x.response) q (Query query) (Answered query v) r (Answer v.version (answer (arc_value v.state) query)) h.0 h.1
+      (query, arc_value v.state, refl, t.0, t.1, t.2, refl)
+  true_of q (Unanswered query (BehindView a)) r h t =
+      same_exchange (λ (x : Exchange M C R H K Q A). IsTrueOf step opening least answer number seen x.request x.response) q (Query query) (Unanswered query (BehindView a)) r (Ahead a) h.0 h.1 (query, refl, t.0, t.1, t.2)
+  true_of q (Unanswered query (NotTaught d)) r h t = subst (λ (z : Response R A). IsTrueOf step opening least answer number seen q z) (sym h.1) tt
+  true_of q (Unanswered query NoView) r h t = subst (λ (z : Response R A). IsTrueOf step opening least answer number seen q z) (sym h.1) tt
+
+  true_all : (xs : List (Exchange M C R H K Q A)) → AreResponses answer xs → AreTrueTurns step opening least number seen (turns_of xs) → AreTrueOf step opening least answer number seen (requests_of xs) (responses_of xs)
+  true_all [] h t = tt
+  true_all (x ∷ xs) h t = (true_of x.request x.turn x.response h.0 t.0, true_all xs h.1 t.1)
+
+module _ {M C R H K Q A : Type 0} (step : M → C → (M × (R × K)) ⊎ R) (opening : List M) (least : Q → ℕ) (answer : M → Q → A) where
+  decided_at : (number : ℕ) (seen : List (Entry M C R H K)) (cmd : C) (r : Receipt M C R H K) → IsDecidedAt step opening number seen cmd r → IsTrueAt step opening least answer number seen (Command cmd) (receipt_response r)
+  decided_at number seen cmd r h =
+      elim h.decided as (λ _. IsTrueAt step opening least answer number seen (Command cmd) (receipt_response r)) [
+        | inl d ↦ rw d.0 (cmd, arc_value r.view.state, refl, h.version, h.reaches, d.1)
+        | inr d ↦ rw d.0 (cmd, arc_value r.view.state, refl, h.version, h.reaches, d.1)
+      ]
+
+  undecided_at : (number : ℕ) (seen : List (Entry M C R H K)) (cmd : C) (f : SessionFault) → IsTrueAt step opening least answer number seen (Command cmd) (fault_response f)
+  undecided_at number seen cmd (Refusing d) = tt
+  undecided_at number seen cmd NoMemory = tt
+
+  answered_at : (s t : SessionModel M C R H K) (query : Q) (v : View M) → IsAnswered step opening s t (least query) v → IsTrueAt step opening least answer s.number t.seen (Query query) (Answer v.version (answer (arc_value v.state) query))
+  answered_at s t query v h =
+      elim h.1 as (λ _. IsTrueAt step opening least answer s.number t.seen (Query query) (Answer v.version (answer (arc_value v.state) query))) [
+        | inl r ↦ (query, arc_value v.state, refl, h.0, r.version, r.reaches, refl)
+        | inr w ↦ (query, arc_value v.state, refl, h.0, w.2.version, w.2.reaches, refl)
+      ]
+
+  unanswered_at : (s t : SessionModel M C R H K) (query : Q) (f : ViewFault) → IsUnanswered step opening s t (least query) f → IsTrueAt step opening least answer s.number t.seen (Query query) (view_response f)
+  unanswered_at s t query (NotTaught d) h = tt
+  unanswered_at s t query NoView h = tt
+  unanswered_at s t query (BehindView a) (inl (Refusing d, e, r, p)) = absurd (cc e)
+  unanswered_at s t query (BehindView a) (inl (NoMemory, e, r, p)) = absurd (cc e)
+  unanswered_at s t query (BehindView a) (inr (m, o, v, p)) = (query, refl, v.0.0, v.0.1, v.0.2)
+
+  true_at : (s t : SessionModel M C R H K) (q : Request C Q) (u : Turn M C R H K Q) (r : Response R A) → IsResponseOf answer q u r → IsTurn step opening least s u t → IsTrueAt step opening least answer s.number t.seen q r
+  true_at s t q Passed r (inl h) i = subst (λ (z : Response R A). IsTrueAt step opening least answer s.number t.seen q z) (sym h.1) h.0
+  true_at s t q Passed r (inr h) i = subst (λ (z : Response R A). IsTrueAt step opening least answer s.number t.seen q z) (sym h) tt
+  true_at s t q (Decided cmd d) r h i =
+      same_exchange (λ (x : Exchange M C R H K Q A). IsTrueAt step opening least answer s.number t.seen x.request x.response) q (Command cmd) (Decided cmd d) r (receipt_response d) h.0 h.1 (decided_at s.number t.seen cmd d (decided_here step opening s t cmd d i))
+  true_at s t q (Undecided cmd f) r h i =
+      same_exchange (λ (x : Exchange M C R H K Q A). IsTrueAt step opening least answer s.number t.seen x.request x.response) q (Command cmd) (Undecided cmd f) r (fault_response f) h.0 h.1 (undecided_at s.number t.seen cmd f)
+  true_at s t q (Answered query v) r h i =
+      same_exchange (λ (x : Exchange M C R H K Q A). IsTrueAt step opening least answer s.number t.seen x.request x.response) q (Query query) (Answered query v) r (Answer v.version (answer (arc_value v.state) query)) h.0 h.1 (answered_at s t query v i)
+  true_at s t q (Unanswered query f) r h i =
+      same_exchange (λ (x : Exchange M C R H K Q A). IsTrueAt step opening least answer s.number t.seen x.request x.response) q (Query query) (Unanswered query f) r (view_response f) h.0 h.1 (unanswered_at s t query f i)
+
+  true_from : (number : ℕ) (s t : SessionModel M C R H K) (xs : List (Exchange M C R H K Q A)) → s.number ≡ number → AreResponses answer xs → Conversed step opening least s (turns_of xs) t
+      → AreTrueFrom step opening least answer number s.seen (requests_of xs) (responses_of xs) t.seen
+  true_from number s t [] e a h = ap (λ (x : SessionModel M C R H K). x.seen) h
+  true_from number s t (x ∷ xs) e a h = (
+    h.0.seen,
+    turn_seen step opening least s h.0 x.turn h.1,
+    subst (λ (n : ℕ). IsTrueAt step opening least answer n h.0.seen x.request x.response) e (true_at s h.0 x.request x.turn x.response a.0 h.1),
+    true_from number h.0 t xs (turn_number step opening least s h.0 x.turn h.1 ∙ e) a.1 h.2,
+  )
+
+module _ {M C R H K Q A : Type 0} (step : M → C → (M × (R × K)) ⊎ R) (opening : List M) (least : Q → ℕ) (answer : M → Q → A) where
+  pub truthful : TruthLaw H step opening least answer
+  truthful s t requests responses w lt h =
+      let xs = h.exchanges in
+      let grown = all_grow step opening least s t (turns_of xs) w h.conversed in
+      let waited = waits_bounded step opening least s t (turns_of xs) h.conversed in
+      let here : IsTruthful step opening least answer s (requests_of xs) (responses_of xs) t = record {
+        seen = all_seen step opening least s t (turns_of xs) h.conversed;
+        versions = subst (λ (l : List ℕ). Rises (length s.seen) l) (sym (all_versions answer xs h.responds)) (versions_rise step opening least s t (turns_of xs) h.conversed);
+        replies = true_all step opening least answer s.number t.seen xs h.responds (all_hold step opening least s t (turns_of xs) h.conversed);
+        each = true_from step opening least answer s.number s t xs refl h.responds h.conversed;
+        within = grown.within;
+        more = grown.more;
+        own = grown.own;
+        accepted = grown.are ∙ accepted_all answer xs h.responds;
+        waits = omega (arith, waited, waits_all answer least (length s.seen) xs h.responds);
+        denied = denials_counted step opening least s t (turns_of xs) lt h.conversed ∙ ap (λ (k : ℕ). min (s.denied + k) (2 ^ 64 - 1)) (denials_all answer xs h.responds);
+      } in
+      subst (λ (l : List (Request C Q)). IsTruthful step opening least answer s l responses t) h.asked
+      (subst (λ (l : List (Response R A)). IsTruthful step opening least answer s (requests_of xs) l t) h.answered here)

@@ -1,0 +1,6 @@
+pub mod Own
+pub mod Turns
+pub mod Conversations
+pub mod Served
+pub mod Truths
+pub mod Prepared

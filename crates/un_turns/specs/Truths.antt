@@ -1,0 +1,158 @@
+-- What holds of the requests that a session handles and their responses. What happened between the two is not named.
+use Rattle.std.specs.Prelude.{◌≡◌, ◌⊎◌, ◌≤◌, ◌<◌, ◌+◌, ◌-◌, ◌^◌, min, max, ℕ, List, [], ◌∷◌, ◌++◌, length, map, take, flat_map}
+use Rattle.std.proofs.Common.{inr}
+use mathlib.Core.List.{IsPrefix}
+use Rattle.un_machine.specs.declared.Entry.{Entry}
+use Rattle.un_machine.specs.Logs.{Reaches}
+use Rattle.un_publish.specs.Models.{SessionModel}
+use Rattle.un_turns.specs.declared.request.Request.{Request}
+use Rattle.un_turns.specs.declared.request.Request.TheVariants.{Other, Command, Query}
+use Rattle.un_turns.specs.declared.request.Response.{Response}
+use Rattle.un_turns.specs.declared.request.Response.TheVariants.{Nothing, Accepted, Refused, Answer, Ahead, Denied, Memory}
+use Rattle.un_turns.specs.Own.{own_entries, IsWithin}
+use Rattle.un_turns.specs.Conversations.{Rises, IsLastEntry, wait_if_later, decision}
+use Rattle.un_turns.specs.Served.{IsServed, IsReplyOf, AreServed}
+
+module _ {R A : Type 0} where
+  -- the version that a response reports
+  abbrev pub versions_in : Response R A → List ℕ
+  versions_in Nothing = []
+  versions_in (Accepted v reply) = v ∷ []
+  versions_in (Refused v reply) = v ∷ []
+  versions_in (Answer v answer) = v ∷ []
+  versions_in (Ahead a) = []
+  versions_in (Denied d) = []
+  versions_in Memory = []
+
+  abbrev pub denials_in : Response R A → ℕ
+  denials_in Nothing = 0
+  denials_in (Accepted v reply) = 0
+  denials_in (Refused v reply) = 0
+  denials_in (Answer v answer) = 0
+  denials_in (Ahead a) = 0
+  denials_in (Denied d) = 1
+  denials_in Memory = 0
+
+  abbrev pub all_denials : List (Response R A) → ℕ
+  all_denials [] = 0
+  all_denials (r ∷ rs) = denials_in r + all_denials rs
+
+  -- how many entries are known after a response: those known before it, or the version that it reports
+  abbrev pub known_in : ℕ → Response R A → ℕ
+  known_in known Nothing = known
+  known_in known (Accepted v reply) = max known v
+  known_in known (Refused v reply) = max known v
+  known_in known (Answer v answer) = max known v
+  known_in known (Ahead a) = known
+  known_in known (Denied d) = known
+  known_in known Memory = known
+
+module _ {C Q : Type 0} where
+  -- how many times a request may wait
+  abbrev pub waits_in : (Q → ℕ) → ℕ → Request C Q → ℕ
+  waits_in least known Other = 0
+  waits_in least known (Command cmd) = 1
+  waits_in least known (Query query) = wait_if_later known (least query)
+
+module _ {C R Q A : Type 0} where
+  -- the command of a request with its reply, if it was accepted
+  abbrev pub accepted_in : Request C Q → Response R A → List (C × R)
+  accepted_in Other response = []
+  accepted_in (Query query) response = []
+  accepted_in (Command cmd) Nothing = []
+  accepted_in (Command cmd) (Accepted v reply) = (cmd, reply) ∷ []
+  accepted_in (Command cmd) (Refused v reply) = []
+  accepted_in (Command cmd) (Answer v answer) = []
+  accepted_in (Command cmd) (Ahead a) = []
+  accepted_in (Command cmd) (Denied d) = []
+  accepted_in (Command cmd) Memory = []
+
+  abbrev pub all_accepted : List (Request C Q) → List (Response R A) → List (C × R)
+  all_accepted [] responses = []
+  all_accepted (q ∷ qs) [] = []
+  all_accepted (q ∷ qs) (r ∷ rs) = accepted_in q r ++ all_accepted qs rs
+
+  abbrev pub all_waits : (Q → ℕ) → ℕ → List (Request C Q) → List (Response R A) → ℕ
+  all_waits least known [] responses = 0
+  all_waits least known (q ∷ qs) [] = 0
+  all_waits least known (q ∷ qs) (r ∷ rs) = waits_in least known q + all_waits least (known_in known r) qs rs
+
+module _ {M C R H K Q A : Type 0} where
+  -- A response is true of the entries that the session has seen in the end: an accepted command is entry v, with this reply; a refused one was
+  -- refused at the state after v entries; a query is answered at the state after v entries, and v is no less than it asked for; and a query that
+  -- asked for more entries than there were is told so.
+  abbrev pub IsTrueOf : (M → C → (M × (R × K)) ⊎ R) → List M → (Q → ℕ) → (M → Q → A) → ℕ → List (Entry M C R H K) → Request C Q → Response R A → Type 0
+  IsTrueOf step opening least answer number seen request Nothing = request ≡ Other
+  IsTrueOf step opening least answer number seen request (Accepted v reply) =
+      (cmd : C) × (s : M) × (request ≡ Command cmd) × (v ≡ length (take v seen)) × Reaches step opening (take v seen) s × IsLastEntry number (take v seen) cmd reply
+  IsTrueOf step opening least answer number seen request (Refused v reply) =
+      (cmd : C) × (s : M) × (request ≡ Command cmd) × (v ≡ length (take v seen)) × Reaches step opening (take v seen) s × (step s cmd ≡ inr reply)
+  IsTrueOf step opening least answer number seen request (Answer v text) =
+      (query : Q) × (s : M) × (request ≡ Query query) × (least query ≤ v) × (v ≤ length seen) × Reaches step opening (take v seen) s × (text ≡ answer s query)
+  IsTrueOf step opening least answer number seen request (Ahead a) =
+      (query : Q) × (request ≡ Query query) × (a.seen ≡ least query) × (a.latest ≤ length seen) × (a.latest < least query)
+  IsTrueOf step opening least answer number seen request (Denied d) = Unit {0}
+  IsTrueOf step opening least answer number seen request Memory = Unit {0}
+
+  abbrev pub AreTrueOf : (M → C → (M × (R × K)) ⊎ R) → List M → (Q → ℕ) → (M → Q → A) → ℕ → List (Entry M C R H K) → List (Request C Q) → List (Response R A) → Type 0
+  AreTrueOf step opening least answer number seen [] [] = Unit {0}
+  AreTrueOf step opening least answer number seen [] (r ∷ rs) = ⊥
+  AreTrueOf step opening least answer number seen (q ∷ qs) [] = ⊥
+  AreTrueOf step opening least answer number seen (q ∷ qs) (r ∷ rs) = IsTrueOf step opening least answer number seen q r × AreTrueOf step opening least answer number seen qs rs
+
+  -- the same of the entries that the session has then seen, which are all of them
+  abbrev pub IsTrueAt : (M → C → (M × (R × K)) ⊎ R) → List M → (Q → ℕ) → (M → Q → A) → ℕ → List (Entry M C R H K) → Request C Q → Response R A → Type 0
+  IsTrueAt step opening least answer number seen request Nothing = request ≡ Other
+  IsTrueAt step opening least answer number seen request (Accepted v reply) =
+      (cmd : C) × (s : M) × (request ≡ Command cmd) × (v ≡ length seen) × Reaches step opening seen s × IsLastEntry number seen cmd reply
+  IsTrueAt step opening least answer number seen request (Refused v reply) =
+      (cmd : C) × (s : M) × (request ≡ Command cmd) × (v ≡ length seen) × Reaches step opening seen s × (step s cmd ≡ inr reply)
+  IsTrueAt step opening least answer number seen request (Answer v text) =
+      (query : Q) × (s : M) × (request ≡ Query query) × (least query ≤ v) × (v ≡ length seen) × Reaches step opening seen s × (text ≡ answer s query)
+  IsTrueAt step opening least answer number seen request (Ahead a) =
+      (query : Q) × (request ≡ Query query) × (a.seen ≡ least query) × (a.latest ≡ length seen) × (length seen < least query)
+  IsTrueAt step opening least answer number seen request (Denied d) = Unit {0}
+  IsTrueAt step opening least answer number seen request Memory = Unit {0}
+
+  -- each response is true of what the session has then seen, which begins with what it had seen before
+  abbrev pub AreTrueFrom : (M → C → (M × (R × K)) ⊎ R) → List M → (Q → ℕ) → (M → Q → A) → ℕ → List (Entry M C R H K) → List (Request C Q) → List (Response R A) → List (Entry M C R H K) → Type 0
+  AreTrueFrom step opening least answer number from [] [] to = to ≡ from
+  AreTrueFrom step opening least answer number from [] (r ∷ rs) to = ⊥
+  AreTrueFrom step opening least answer number from (q ∷ qs) [] to = ⊥
+  AreTrueFrom step opening least answer number from (q ∷ qs) (r ∷ rs) to =
+      (seen : List (Entry M C R H K)) × IsPrefix from seen × IsTrueAt step opening least answer number seen q r × AreTrueFrom step opening least answer number seen qs rs to
+
+  -- All that is promised of requests that are handled one after another, and their responses: what the session has seen begins with what it had
+  -- seen; the versions never fall; each response is true; the session's own entries are those before, and then the accepted commands, each once and
+  -- in order; the waits are bounded; and each denial is counted.
+  pub record IsTruthful (step : M → C → (M × (R × K)) ⊎ R) (opening : List M) (least : Q → ℕ) (answer : M → Q → A) (s : SessionModel M C R H K) (requests : List (Request C Q)) (responses : List (Response R A)) (t : SessionModel M C R H K) : Type 0 where
+    pub seen : IsPrefix s.seen t.seen
+    pub versions : Rises (length s.seen) (flat_map versions_in responses)
+    pub replies : AreTrueOf step opening least answer s.number t.seen requests responses
+    pub each : AreTrueFrom step opening least answer s.number s.seen requests responses t.seen
+    pub within : IsWithin t
+    pub more : List (Entry M C R H K)
+    pub own : own_entries t ≡ own_entries s ++ more
+    pub accepted : map decision more ≡ all_accepted requests responses
+    pub waits : t.waits ≤ s.waits + all_waits least (length s.seen) requests responses
+    pub denied : t.denied ≡ min (s.denied + all_denials responses) (2 ^ 64 - 1)
+
+module _ {M C R K Q A : Type 0} where
+  -- the reply in a response is that of a step
+  abbrev pub ReplyLaw : (H : Type 0) → (M → C → (M × (R × K)) ⊎ R) → List M → (Q → ℕ) → (M → Q → A) → Type 0
+  ReplyLaw H step opening least answer =
+      (s t : SessionModel M C R H K) (request : Request C Q) (response : Response R A)
+      → IsServed step opening least answer s request response t → IsReplyOf step request response
+
+  -- one more request may follow
+  abbrev pub MoreLaw : (H : Type 0) → (M → C → (M × (R × K)) ⊎ R) → List M → (Q → ℕ) → (M → Q → A) → Type 0
+  MoreLaw H step opening least answer =
+      (s m t : SessionModel M C R H K) (requests : List (Request C Q)) (responses : List (Response R A)) (request : Request C Q) (response : Response R A)
+      → AreServed step opening least answer s requests responses m → IsServed step opening least answer m request response t
+      → AreServed step opening least answer s (requests ++ request ∷ []) (responses ++ response ∷ []) t
+
+  -- all that is promised holds
+  abbrev pub TruthLaw : (H : Type 0) → (M → C → (M × (R × K)) ⊎ R) → List M → (Q → ℕ) → (M → Q → A) → Type 0
+  TruthLaw H step opening least answer =
+      (s t : SessionModel M C R H K) (requests : List (Request C Q)) (responses : List (Response R A))
+      → IsWithin s → s.denied < 2 ^ 64 → AreServed step opening least answer s requests responses t → IsTruthful step opening least answer s requests responses t

@@ -1,0 +1,67 @@
+-- What one request does to the session that handles it.
+use Rattle.std.specs.Prelude.{◌≡◌, ◌⊎◌, ◌≤◌, ◌<◌, ℕ, List, length}
+use Rattle.std.specs.Arc.{arc_value}
+use mathlib.Core.List.{IsPrefix}
+use Rattle.un_machine.specs.Logs.{Reaches}
+use Rattle.un_publish.specs.Models.{SessionModel}
+use Rattle.un_publish.specs.Faults.{IsReadFault}
+use Rattle.un_publish.specs.declared.session.View.{View}
+use Rattle.un_publish.specs.declared.session.SessionFault.{SessionFault}
+use Rattle.un_publish.specs.declared.session.SessionFault.TheVariants.{Denied as Refused, Memory}
+use Rattle.un_journal.specs.declared.receipt.Receipt.{Receipt}
+use Rattle.un_desk.specs.declared.desk.ViewFault.{ViewFault}
+use Rattle.un_desk.specs.declared.desk.ViewFault.TheVariants.{Denied as NotTaught, Memory as NoMemory}
+use Rattle.un_desk.specs.Desks.{IsSubmitted, IsDeskFault, counted}
+use Rattle.un_desk.specs.Views.{IsViewFault}
+
+-- A request that was handled, and its outcome.
+pub data Turn (M C R H K Q : Type 0) : Type 0 where
+  -- it asked nothing of the session, or memory ran out before it could
+  Passed : Turn M C R H K Q
+  -- a command that was accepted or refused
+  Decided : C → Receipt M C R H K → Turn M C R H K Q
+  -- a command that was not decided
+  Undecided : C → SessionFault → Turn M C R H K Q
+  -- a query that was answered at a view
+  Answered : Q → View M → Turn M C R H K Q
+  -- a query that was not answered
+  Unanswered : Q → ViewFault → Turn M C R H K Q
+
+-- the fault of a read, as the fault of a view
+abbrev pub view_fault : SessionFault → ViewFault
+view_fault (Refused d) = NotTaught d
+view_fault Memory = NoMemory
+
+module _ {M C R H K : Type 0} where
+  -- a view that a session reads by itself
+  pub record IsRead (step : M → C → (M × (R × K)) ⊎ R) (opening : List M) (s t : SessionModel M C R H K) (v : View M) : Type 0 where
+    pub seen : IsPrefix s.seen t.seen
+    pub version : v.version ≡ length t.seen
+    pub reaches : Reaches step opening t.seen (arc_value v.state)
+    pub kept : t ≡ record s { seen = t.seen }
+
+  -- a read whose view is older than what is asked for
+  pub record IsOlder (step : M → C → (M × (R × K)) ⊎ R) (opening : List M) (s t : SessionModel M C R H K) (least : ℕ) : Type 0 where
+    pub view : View M
+    pub read : IsRead step opening s t view
+    pub older : view.version < least
+
+  -- a query that was answered: by a read alone if its view is late enough, and otherwise by the desk
+  abbrev pub IsAnswered : (M → C → (M × (R × K)) ⊎ R) → List M → SessionModel M C R H K → SessionModel M C R H K → ℕ → View M → Type 0
+  IsAnswered step opening s t least v =
+      (least ≤ v.version) × (IsRead step opening s t v ⊎ ((m : SessionModel M C R H K) × IsOlder step opening s m least × IsRead step opening (counted m) t v))
+
+  -- a query that was not answered: the read failed; or its view is older than what is asked for, and the desk returned none
+  abbrev pub IsUnanswered : (M → C → (M × (R × K)) ⊎ R) → List M → SessionModel M C R H K → SessionModel M C R H K → ℕ → ViewFault → Type 0
+  IsUnanswered step opening s t least f =
+      ((e : SessionFault) × (f ≡ view_fault e) × IsReadFault s t e × IsPrefix s.seen t.seen)
+      ⊎ ((m : SessionModel M C R H K) × IsOlder step opening s m least × IsViewFault (counted m) t least f × IsPrefix m.seen t.seen)
+
+module _ {M C R H K Q : Type 0} where
+  -- what a request did to the session. `least` is the number of entries that a query asks for at least
+  abbrev pub IsTurn : (M → C → (M × (R × K)) ⊎ R) → List M → (Q → ℕ) → SessionModel M C R H K → Turn M C R H K Q → SessionModel M C R H K → Type 0
+  IsTurn step opening least s Passed t = t ≡ s
+  IsTurn step opening least s (Decided cmd r) t = IsSubmitted step opening s t cmd r
+  IsTurn step opening least s (Undecided cmd f) t = IsDeskFault (counted s) t f × IsPrefix s.seen t.seen
+  IsTurn step opening least s (Answered query v) t = IsAnswered step opening s t (least query) v
+  IsTurn step opening least s (Unanswered query f) t = IsUnanswered step opening s t (least query) f
