@@ -29,3 +29,4 @@ pub mod StepLocality
 pub mod Stepping
 pub mod Taken
 pub mod Isolating
+pub mod Crossing

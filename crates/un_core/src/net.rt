@@ -1,5 +1,5 @@
 //! The network.
-ghost use Rattle.std.specs.Prelude.{◌≡◌, ◌<◌, [], ◌∷◌, Some, None, IfOk, OnOk, IfErr};
+ghost use Rattle.std.specs.Prelude.{◌≡◌, ◌<◌, [], ◌∷◌, Some, None, length, IfOk, OnOk, IfErr};
 ghost use Rattle.un_core.specs.State.{State, next_ids, opening};
 ghost use Rattle.un_core.specs.Cover.{IsState};
 ghost use Rattle.un_core.specs.Refusals.{numbers_refusal};
@@ -65,6 +65,20 @@ impl Net {
         ensures state { IsState self.now }
     {
         self.version
+    }
+
+    /// How many features there are.
+    pub fn rows(&self) -> u64
+        ensures { result ≡ length self.now.features.rows }
+    {
+        self.facts.len()
+    }
+
+    /// Puts the network that follows in the place of this one.
+    pub fn replace(&mut self, next: Net)
+        ensures { self.new ≡ next }
+    {
+        *self = next;
     }
 
     /// The ids that the next edit gives.

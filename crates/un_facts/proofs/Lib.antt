@@ -7,3 +7,4 @@ pub mod Linked
 pub mod Placed
 pub mod Settled
 pub mod NoMemory
+pub mod Crossing

@@ -130,7 +130,7 @@ fn apply(
             mark: _mark,
         } => {
             print_line(&reply, out);
-            *net = next;
+            net.replace(next);
         }
         Applied::Refused { reply } => {
             print_line(&reply, out);
