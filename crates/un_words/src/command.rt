@@ -1,0 +1,90 @@
+//! Commands.
+ghost use Rattle.std.specs.Prelude.{◌≡◌, ℕ, List, Some, MatchOption, [], ◌∷◌, codes};
+ghost use Rattle.un_words.specs.Words.{IsCommand};
+ghost use Rattle.un_words.specs.declared.command.ProgramCommand.{ProgramCommand};
+
+use crate::number::number_within;
+use un_io::Word;
+
+/// The most junctions that are made.
+const MOST_JUNCTIONS: u32 = 20_000;
+
+/// The most workers of a server.
+const MOST_WORKERS: u32 = 64;
+
+/// What a program is asked to do.
+#[derive(Clone, Copy, Debug, PartialEq, Eq)]
+pub enum ProgramCommand {
+    /// `script`: runs the script that is read from standard input.
+    Script,
+    /// `make SEED COUNT`: builds a network of this many junctions, which the seed determines.
+    Make { seed: u32, count: u32 },
+    /// `serve PORT WORKERS`: answers HTTP requests at a port, with this many workers.
+    Serve { port: u16, workers: u32 },
+}
+
+// The command with one word.
+fn read_script(name: &Word) -> Option<ProgramCommand>
+    ensures read { MatchOption result
+        ((command : ProgramCommand) → ¬ IsCommand (name.now ∷ []) command)
+        (IsCommand (name.now ∷ [])) }
+{
+    if name.as_str() == "script" {
+        Some(ProgramCommand::Script)
+    } else {
+        None
+    }
+}
+
+// The command `make` with these numbers.
+fn read_make(seed: &Word, count: &Word) -> Option<ProgramCommand>
+    ensures read { MatchOption result
+        ((command : ProgramCommand) → ¬ IsCommand (codes "make" ∷ seed.now ∷ count.now ∷ []) command)
+        (IsCommand (codes "make" ∷ seed.now ∷ count.now ∷ [])) }
+{
+    let seed = number_within(seed.as_str(), 0, u32::MAX)?;
+    let count = number_within(count.as_str(), 1, MOST_JUNCTIONS)?;
+    Some(ProgramCommand::Make { seed, count })
+}
+
+// The command `serve` with these numbers.
+fn read_serve(port: &Word, workers: &Word) -> Option<ProgramCommand>
+    ensures read { MatchOption result
+        ((command : ProgramCommand) → ¬ IsCommand (codes "serve" ∷ port.now ∷ workers.now ∷ []) command)
+        (IsCommand (codes "serve" ∷ port.now ∷ workers.now ∷ [])) }
+{
+    let port = number_within(port.as_str(), 1, u16::MAX as u32)?;
+    let workers = number_within(workers.as_str(), 1, MOST_WORKERS)?;
+    Some(ProgramCommand::Serve {
+        port: port as u16,
+        workers,
+    })
+}
+
+// The command with three words.
+fn read_numbers(name: &Word, first: &Word, second: &Word) -> Option<ProgramCommand>
+    ensures read { MatchOption result
+        ((command : ProgramCommand) → ¬ IsCommand (name.now ∷ first.now ∷ second.now ∷ []) command)
+        (IsCommand (name.now ∷ first.now ∷ second.now ∷ [])) }
+{
+    match name.as_str() {
+        "make" => read_make(first, second),
+        "serve" => read_serve(first, second),
+        _ => None,
+    }
+}
+
+/// The command that the words are, or `None` if they are none.
+///
+/// Numbers are decimal, without a sign and without leading zeros.
+pub fn read_words(words: &[Word]) -> Option<ProgramCommand>
+    ensures read { MatchOption result ((command : ProgramCommand) → ¬ IsCommand words.now command)
+        (IsCommand words.now) }
+    ensures only { (command : ProgramCommand) → IsCommand words.now command → result ≡ Some command }
+{
+    match words {
+        [name] => read_script(name),
+        [name, first, second] => read_numbers(name, first, second),
+        _ => None,
+    }
+}
