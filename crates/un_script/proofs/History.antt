@@ -2,7 +2,7 @@
 use Rattle.std.proofs.Common.{◌≡◌, ◌≢◌, ◌⊎◌, inl, inr, ℕ, Bool, true, false, List, ◌++◌, Option, None, Some, Result, Ok, Err, refl, sym, ap, ◌∙◌}
 use Rattle.std.specs.Io.KnownBytes.{IsAtEnd}
 use Rattle.un_lines.specs.Cut.{lines_of}
-use Rattle.un_lines.specs.Due.{Opens, first_of, IsServed, IsCutShort}
+use Rattle.un_lines.specs.Due.{Opens, IsServed, IsCutShort}
 use Rattle.un_lines.specs.Alike.{BothOpen, AreAlike, same_due, same_first, state_behind}
 use Rattle.un_schema.specs.declared.place.Place.{Place}
 use Rattle.un_schema.specs.Catalog.{Catalog}
@@ -17,7 +17,7 @@ use Rattle.un_core.specs.State.{State}
 use Rattle.un_core.specs.Accepted.{IsAfter, OpeningLaw}
 use Rattle.un_core.specs.Requests.{FaithfulLaw, BehindLaw}
 use Rattle.un_script.specs.Script.{script, setup_of, opened_by as state_opened, reply_to_line, state_behind_line, IsServedBy, IsUnrefusedBy}
-use Rattle.un_script.specs.History.{History, opened_by, reply_after_line, history_behind_line, by_history, StateLaw, DueLaw, Headline}
+use Rattle.un_script.specs.History.{History, opened_by, reply_after_line, history_behind_line, by_history, StateLaw, Headline}
 
 -- the state is the one after the history
 abbrev Agree : State → History → Type 0

@@ -1,3 +1,5 @@
 pub mod Script
 pub mod History
 pub mod Replies
+pub mod Made
+pub mod Runs

@@ -1,5 +1,5 @@
 -- Each reply of a script is one line, and only that to a line that met want of memory tells of it.
-use Rattle.std.proofs.Common.{◌≡◌, ◌≢◌, ℕ, List, [], ◌∷◌, ◌<◌, Option, None, Some, Result, Ok, Err, ap, lit<, refl, arith}
+use Rattle.std.proofs.Common.{◌≡◌, ◌≢◌, ℕ, List, Option, None, Some, Result, Ok, Err, refl}
 use Rattle.un_lines.specs.Rules.{IsPlain}
 use Rattle.un_ask.specs.declared.request.Request.{Request}
 use Rattle.un_ask.specs.declared.request.Request.TheVariants as request

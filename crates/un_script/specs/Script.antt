@@ -1,5 +1,5 @@
 -- What is due for the lines of a script.
-use Rattle.std.specs.Prelude.{◌≡◌, ◌≢◌, ℕ, Bool, false, List, [], ◌∷◌, ◌++◌, Option, None, Some, Result, Ok, Err, codes}
+use Rattle.std.specs.Prelude.{◌≡◌, ◌≢◌, ℕ, Bool, false, List, [], ◌∷◌, ◌++◌, Option, None, Some, Result, Ok, Err}
 use Rattle.un_lines.specs.Cut.{lines_of}
 use Rattle.un_lines.specs.Rules.{Rules, kind_of}
 use Rattle.un_lines.specs.Due.{First, Refuses, due, first_of, IsRefused}
@@ -71,10 +71,6 @@ script = record {
   next = λ s line. state_behind_line s (ask line);
   too_long = print line_too_long;
 }
-
--- the one command: the word `script` alone
-abbrev pub IsScript : List (List ℕ) → Type 0
-IsScript words = words ≡ codes "script" ∷ []
 
 -- all that is due is written, and the first line came to this
 pub record IsServedBy {S : Type 0} (rules : Rules S) (read : List ℕ) (ended : Bool) (first : First) (out : List ℕ) : Type 0 where

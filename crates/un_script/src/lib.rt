@@ -3,6 +3,7 @@
 
 mod handler;
 mod laws;
+mod make;
 mod run;
 
 pub use run::run_script;

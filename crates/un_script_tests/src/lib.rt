@@ -1,5 +1,7 @@
-//! Tests of scripts, from bytes to bytes.
+//! Tests of scripts and of generated networks, from words and bytes to bytes.
 #![tactic(auto)]
 
+#[cfg(test)]
+mod makes;
 #[cfg(test)]
 mod scripts;

@@ -1,0 +1,25 @@
+//! A network that is made from a number, and a line that tells of it.
+//!
+//! The commands of the number are applied to a network under the built-in schema, one after another. Then a connected
+//! trace and a trace of loops start from the first joint. The line has five numbers: the features that the first reached,
+//! the errors that the validation told of, the features that there are, the segments on loops, and the version.
+ghost use Rattle.std.specs.Prelude.{◌≡◌, ◌≤◌, IfOk};
+ghost use Rattle.un_script.specs.Made.{made_line};
+
+mod line;
+mod network;
+mod traces;
+
+use std::alloc::{AllocError, Global};
+
+/// The line of a seed and a count, with its line end. Want of memory is the one error.
+pub(crate) fn make_line(alloc: Global, seed: u32, count: u32) -> Result<Vec<u8>, AllocError>
+    requires some { 1 ≤ count }
+    requires few { count ≤ 20000 }
+    ensures { IfOk result (λ line. line.items ≡ made_line seed count) }
+{
+    let commands = un_gen::commands(alloc, seed, count)?;
+    let mut net = network::open(alloc)?;
+    let errors = network::apply_all(alloc, &mut net, commands.as_slice())?;
+    line::line_at(alloc, &net, errors)
+}
