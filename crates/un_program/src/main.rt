@@ -1,18 +1,25 @@
-//! The utility network program: `script` runs a script from standard input to standard output.
+//! The utility network program: `script` runs a script from standard input to standard output, `make` writes the line of a
+//! generated network, and `serve` answers HTTP requests on the loopback under the schema that it reads from standard input.
 #![tactic(auto)]
 
+use std::net::{Ipv4Addr, SocketAddr, TcpListener};
 use std::process::ExitCode;
 use std::rt::Env;
 use std::{env, io};
-use un_io::{ReadSource, Word, WriteSink};
+use un_io::{ReadSource, TcpDoor, Word, WriteSink};
 use un_script::run_script;
+use un_serve::run_serve;
 use un_steps::Steps;
+use un_words::{ProgramCommand, read_words};
 
 /// The status where there is no memory for the words.
 const NO_MEMORY: u8 = 7;
 
 /// The status where the words are no command, or one of them is not UTF-8.
 const NO_COMMAND: u8 = 2;
+
+/// The status where the port cannot be listened at.
+const NO_DOOR: u8 = 5;
 
 // The words behind the program's name.
 fn words<R: Env + AllocGlobal>(rt: &R) -> io::Result<Vec<Word>> {
@@ -31,24 +38,39 @@ fn no_words(fault: &io::Error) -> u8 {
     }
 }
 
+// Runs a script from standard input to standard output.
+fn script(rt: &HostRuntime, words: &[Word]) -> u8 {
+    let mut source = ReadSource::new(rt.stdin());
+    let mut sink = WriteSink::new(rt.stdout());
+    let mut steps: Steps<()> = Steps::new();
+    run_script(rt.alloc(), words, &mut source, &mut sink, &mut steps)
+}
+
+// Serves the links that arrive at a port of the loopback.
+fn serve(rt: &HostRuntime, words: &[Word], port: u16) -> u8 {
+    let Ok(listener) = TcpListener::bind(rt, SocketAddr::from((Ipv4Addr::LOCALHOST, port))) else {
+        return NO_DOOR;
+    };
+    let mut door = TcpDoor::new(listener);
+    let mut schema = ReadSource::new(rt.stdin());
+    run_serve(rt, rt.alloc(), words, &mut schema, &mut door)
+}
+
+// Does what the words say.
+fn run(rt: &HostRuntime, words: &[Word]) -> u8 {
+    match read_words(words) {
+        Some(ProgramCommand::Serve { port, workers: _ }) => serve(rt, words, port),
+        _ => script(rt, words),
+    }
+}
+
 fn main(rt: HostRuntime) -> ExitCode {
     let status = match words(&rt) {
-        Ok(words) => {
-            let mut source = ReadSource::new(rt.stdin());
-            let mut sink = WriteSink::new(rt.stdout());
-            let mut steps: Steps<()> = Steps::new();
-            run_script(
-                rt.alloc(),
-                words.as_slice(),
-                &mut source,
-                &mut sink,
-                &mut steps,
-            )
-        }
+        Ok(words) => run(&rt, words.as_slice()),
         Err(fault) => no_words(&fault),
     };
     if status == NO_COMMAND {
-        let _ = eprintln!(rt; "usage: un_program script");
+        let _ = eprintln!(rt; "usage: un_program script | make SEED COUNT | serve PORT WORKERS");
     }
     ExitCode::from(status)
 }

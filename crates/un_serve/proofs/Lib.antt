@@ -1,0 +1,5 @@
+mod Names
+mod History
+mod Printable
+mod Versions
+mod Statuses

@@ -1,0 +1,4 @@
+pub mod Printing
+pub mod Asking
+pub mod Serving
+pub mod Running

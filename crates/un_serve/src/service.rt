@@ -1,0 +1,112 @@
+//! A network as what the links of the server ask.
+ghost use Rattle.std.specs.Prelude.{◌≡◌, IfOk};
+ghost use Rattle.un_ask.specs.Replies.{HasFewEdits};
+
+use crate::asking::{NetAsked, read_asked};
+use crate::printing::{reply_page, reply_status};
+use std::alloc::{AllocError, Global};
+use un_ask::{Command, Query, Refusal, Reply};
+use un_core::Net;
+use un_core::laws::steps_reply;
+use un_exchange::{Page, Service, Status};
+use un_http::Routes;
+use un_journal::receipt::Ahead;
+use un_replies::print_command_reply;
+use un_steps::Steps;
+use un_turns::Answers;
+
+/// Reads the requests of links by their routes, and prints the replies of a network.
+#[derive(Drop)]
+pub struct NetService {
+    routes: Routes,
+}
+
+impl NetService {
+    /// The service with its routes.
+    pub(crate) fn new(alloc: Global) -> Result<NetService, AllocError> {
+        Ok(NetService {
+            routes: Routes::new(alloc)?,
+        })
+    }
+}
+
+// A batch has few edits, as each batch has.
+fn few_edits(command: &Command)
+    ensures { HasFewEdits command.now }
+{
+    if let Command::Batch(edits) = command {
+        // For the proof alone.
+        let _edits = edits.as_slice();
+    }
+}
+
+/// A query is answered by the network, and printed.
+impl Answers<Net> for NetService {
+    ghost use Rattle.un_serve.specs.Serving.{least_of, answer_of};
+
+    type Query = Query;
+
+    type Answer = Page;
+
+    ghost least = { least_of };
+
+    ghost answer = { answer_of };
+
+    fn least(query: &Query) -> u64 {
+        query.seen
+    }
+
+    fn answer(alloc: Global, state: &Net, query: &Query) -> Result<Page, AllocError> {
+        let mut steps = Steps::<()>::new();
+        let reply = state.answer(alloc, query, &mut steps)?;
+        reply_page(alloc, &reply)
+    }
+}
+
+impl Service<Net> for NetService {
+    ghost use Rattle.un_serve.specs.Asking.{Asks};
+    ghost use Rattle.un_serve.specs.Printing.{Fits, printing};
+
+    ghost asks = { Asks };
+
+    ghost printing = { printing };
+
+    ghost fits = { Fits };
+
+    fn read(
+        &self,
+        alloc: Global,
+        method: &[u8],
+        path: &[u8],
+        body: &[u8],
+    ) -> Result<NetAsked, AllocError> {
+        read_asked(alloc, &self.routes, method, path, body)
+    }
+
+    fn can_print(cmd: &Command) {
+        steps_reply();
+        few_edits(cmd);
+    }
+
+    fn print_reply(reply: &Reply, out: &mut Vec<u8>) -> Status {
+        print_command_reply(reply, out);
+        reply_status(reply)
+    }
+
+    fn print_ahead(ahead: &Ahead, out: &mut Vec<u8>) {
+        let refusal = Refusal::Ahead {
+            seen: ahead.seen(),
+            latest: ahead.latest(),
+        };
+        let reply = Reply::Refused {
+            refusal,
+            edit: None,
+            version: 0,
+        };
+        print_command_reply(&reply, out);
+    }
+
+    fn answer_page(answer: Page) -> Page {
+        answer
+    }
+}

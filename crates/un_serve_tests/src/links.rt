@@ -1,0 +1,101 @@
+//! Two links at once.
+
+use crate::door::ShortDoor;
+use std::alloc::{AllocError, Global};
+use std::io;
+use std::io::{Read, Write};
+use std::net::{Ipv4Addr, OpenStream, SocketAddr, TcpListener, TcpStream};
+use std::test::Fail;
+use std::thread::join;
+use std::time::Duration;
+use un_io::{SureSource, TcpDoor, Word};
+use un_serve::run_serve;
+
+/// The first bytes of the first link's insert. While the rest is missing, the second link is served.
+const INSERT_BEGUN: &[u8] =
+    b"POST /commands HTTP/1.1\r\nContent-Length: 49\r\n\r\n{\"do\":\"insert\",";
+
+const INSERT_ENDED: &[u8] = b"\"kind\":\"joint\",\"points\":[[0,0,0]]}";
+
+const INSERTED: &[u8] =
+    b"HTTP/1.1 200 OK\r\nContent-Type: application/json\r\nContent-Length: 48\r\n\r\n{\"areas\":[1,1],\"id\":1,\"ok\":\"insert\",\"version\":1}";
+
+const VERSION: &[u8] = b"GET /version HTTP/1.1\r\n\r\n";
+
+const VERSION_0: &[u8] =
+    b"HTTP/1.1 200 OK\r\nContent-Type: application/json\r\nContent-Length: 28\r\n\r\n{\"ok\":\"version\",\"version\":0}";
+
+const SEEN_1: &[u8] =
+    b"POST /queries HTTP/1.1\r\nContent-Length: 26\r\n\r\n{\"ask\":\"version\",\"seen\":1}";
+
+const VERSION_1: &[u8] =
+    b"HTTP/1.1 200 OK\r\nContent-Type: application/json\r\nContent-Length: 28\r\n\r\n{\"ok\":\"version\",\"version\":1}";
+
+const SEEN_2: &[u8] =
+    b"POST /queries HTTP/1.1\r\nContent-Length: 26\r\n\r\n{\"ask\":\"version\",\"seen\":2}";
+
+const AHEAD: &[u8] =
+    b"HTTP/1.1 409 Conflict\r\nContent-Type: application/json\r\nContent-Length: 47\r\n\r\n{\"error\":31,\"latest\":1,\"name\":\"Ahead\",\"seen\":2}";
+
+const TRACE: &[u8] =
+    b"POST /queries HTTP/1.1\r\nContent-Length: 60\r\n\r\n{\"ask\":\"trace\",\"type\":\"connected\",\"starts\":[[1,1]],\"seen\":1}";
+
+const DIRTY: &[u8] =
+    b"HTTP/1.1 422 Unprocessable Content\r\nContent-Type: application/json\r\nContent-Length: 75\r\n\r\n{\"area\":1,\"error\":43,\"feature\":1,\"name\":\"DirtyGround\",\"port\":1,\"version\":1}";
+
+// Whether the response to the bytes is this one.
+fn gets(alloc: Global, link: &mut TcpStream, request: &[u8], response: &[u8]) -> io::Result<bool> {
+    link.write_all(request)?;
+    let mut bytes = vec![in alloc; 0u8; response.len()]?;
+    link.read_exact(&mut bytes)?;
+    Ok(bytes.as_slice() == response)
+}
+
+// The second link asks while the first one has sent half of a request, and then for what the first one inserted. Both
+// are closed at the end.
+fn talk(alloc: Global, first: TcpStream, second: TcpStream) -> io::Result<bool> {
+    let (mut first, mut second) = (first, second);
+    first.write_all(INSERT_BEGUN)?;
+    let meanwhile = gets(alloc, &mut second, VERSION, VERSION_0)?;
+    let inserted = gets(alloc, &mut first, INSERT_ENDED, INSERTED)?;
+    let seen = gets(alloc, &mut second, SEEN_1, VERSION_1)?;
+    let ahead = gets(alloc, &mut second, SEEN_2, AHEAD)?;
+    let dirty = gets(alloc, &mut second, TRACE, DIRTY)?;
+    Ok(meanwhile && inserted && seen && ahead && dirty)
+}
+
+// A link to the server. A read that has no answer for so long fails, and does not hang.
+fn connect(rt: &HostRuntime, address: SocketAddr) -> io::Result<TcpStream> {
+    let link = TcpStream::connect(rt, address)?;
+    link.set_read_timeout(Some(Duration::from_secs(20)))?;
+    Ok(link)
+}
+
+// The server's words, for two workers. The port is of no use: the door is there.
+fn words(alloc: Global) -> Result<Vec<Word>, AllocError> {
+    let mut words = Vec::new(alloc);
+    for text in ["serve", "1", "2"] {
+        words.push(Word::new(String::from_str(alloc, text)?))?;
+    }
+    Ok(words)
+}
+
+#[test]
+fn two_links_are_served_at_once(rt: HostRuntime) -> Result<(), Fail> {
+    let alloc = rt.alloc();
+    let words = words(alloc)?;
+    let mut schema = SureSource::new(b"{\"schema\":0}\n".to_vec(alloc)?);
+    let listener = TcpListener::bind(&rt, SocketAddr::from((Ipv4Addr::LOCALHOST, 0)))?;
+    let address = listener.local_addr()?;
+    let mut door = ShortDoor::new(TcpDoor::new(listener), 2);
+    let first = connect(&rt, address)?;
+    let second = connect(&rt, address)?;
+    let (status, talked) = join(
+        &rt,
+        || run_serve(&rt, alloc, &words, &mut schema, &mut door),
+        || talk(alloc, first, second).is_ok_and(|all| all),
+    );
+    assert!(rt; talked);
+    assert_eq!(rt; status, 0);
+    Ok(())
+}
