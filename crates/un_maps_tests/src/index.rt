@@ -1,7 +1,6 @@
 // Each call once, with memory enough.
 use std::alloc::{AllocError, Global};
 use std::sync::Arc;
-use std::test::Fail;
 use un_defs::star::{Spots, TopoErrors};
 use un_defs::{ErrorKind, Star, TopoError};
 use un_geom::{Point, Rect};
@@ -25,47 +24,80 @@ fn wrong(alloc: Global, errors: &[TopoError]) -> Result<Arc<Star>, AllocError> {
     Ok(Arc::new(alloc, star)?)
 }
 
-#[test]
-fn an_empty_star_takes_the_point_out(rt: HostRuntime) -> Result<(), Fail> {
-    let p = Point { x: 1, y: 2, z: 3 };
-    let none = Index::new(rt.alloc());
-    let mut one = none.share()?;
-    one.put(rt.alloc(), p, wrong(rt.alloc(), &[stacked(4)])?)?;
-    let mut gone = one.share()?;
-    gone.put(rt.alloc(), p, wrong(rt.alloc(), &[])?)?;
-    assert_eq!(rt; none.len(), 0);
-    assert_eq!(rt; one.len(), 1);
-    assert_eq!(rt; gone.len(), 0);
-    assert!(rt; none.star(p).is_none());
-    assert_eq!(rt;
-        one.star(p).map(|star| star.errors.as_slice().len()),
-        Some(1)
-    );
-    assert!(rt; one.star(Point { x: 1, y: 2, z: 4 }).is_none());
-    assert!(rt; gone.star(p).is_none());
-    Ok(())
+fn put(alloc: Global, index: &mut Index, p: Point, errors: &[TopoError]) -> Result<(), AllocError> {
+    let star = wrong(alloc, errors)?;
+    index.put(alloc, p, star)
+}
+
+const NEAR: Point = Point { x: 0, y: 10, z: 0 };
+
+const FAR: Point = Point { x: 10, y: 0, z: 9 };
+
+const OUT: Point = Point { x: 5, y: 11, z: 0 };
+
+// The index with a star of these errors at the near point.
+fn with_star(alloc: Global, index: &Index, errors: &[TopoError]) -> Result<Index, AllocError> {
+    let mut copy = index.share()?;
+    put(alloc, &mut copy, NEAR, errors)?;
+    Ok(copy)
+}
+
+fn count_at(index: &Index, p: Point) -> Option<usize> {
+    index.star(p).map(|star| star.errors.as_slice().len())
+}
+
+// How many stars there are, and how many errors at the near point and above it.
+type Seen = (u64, Option<usize>, Option<usize>);
+
+fn seen(index: &Index) -> Seen {
+    let above = Point { x: 0, y: 10, z: 1 };
+    (index.len(), count_at(index, NEAR), count_at(index, above))
+}
+
+// An empty index, the index with a star, and the same without it.
+fn versions(alloc: Global) -> Result<[Seen; 3], AllocError> {
+    let none = Index::new(alloc);
+    let one = with_star(alloc, &none, &[stacked(4)])?;
+    let gone = with_star(alloc, &one, &[])?;
+    Ok([seen(&none), seen(&one), seen(&gone)])
 }
 
 #[test]
-fn errors_under_a_rectangle(rt: HostRuntime) -> Result<(), Fail> {
-    let near = Point { x: 0, y: 10, z: 0 };
-    let far = Point { x: 10, y: 0, z: 9 };
-    let out = Point { x: 5, y: 11, z: 0 };
-    let mut index = Index::new(rt.alloc());
-    index.put(rt.alloc(), far, wrong(rt.alloc(), &[stacked(3)])?)?;
-    index.put(rt.alloc(), out, wrong(rt.alloc(), &[stacked(9)])?)?;
-    index.put(
-        rt.alloc(),
-        near,
-        wrong(rt.alloc(), &[stacked(1), stacked(2)])?,
-    )?;
-    let square = Rect::new(0, 0, 10, 10).ok_or("square")?;
-    let points = index.points(rt.alloc(), square)?;
-    assert_eq!(rt; points.as_slice(), [near, far].as_slice());
-    let errors = index.errors(rt.alloc(), square)?;
-    assert_eq!(rt;
-        errors.as_slice(),
-        [(near, stacked(1)), (near, stacked(2)), (far, stacked(3))].as_slice()
-    );
-    Ok(())
+fn an_empty_star_takes_the_point_out(rt: HostRuntime) {
+    let want = [(0, None, None), (1, Some(1), None), (0, None, None)];
+    assert_eq!(rt; versions(rt.alloc()).ok(), Some(want));
+}
+
+fn three_stars(alloc: Global) -> Result<Index, AllocError> {
+    let mut index = Index::new(alloc);
+    put(alloc, &mut index, FAR, &[stacked(3)])?;
+    put(alloc, &mut index, OUT, &[stacked(9)])?;
+    put(alloc, &mut index, NEAR, &[stacked(1), stacked(2)])?;
+    Ok(index)
+}
+
+// Whether exactly these points with stars are under the rectangle.
+fn has_points(alloc: Global, extent: Rect, want: &[Point]) -> Option<bool> {
+    let points = three_stars(alloc).ok()?.points(alloc, extent).ok()?;
+    Some(points.as_slice() == want)
+}
+
+// Whether exactly these errors are under the rectangle.
+fn has_errors(alloc: Global, extent: Rect, want: &[(Point, TopoError)]) -> Option<bool> {
+    let errors = three_stars(alloc).ok()?.errors(alloc, extent).ok()?;
+    Some(errors.as_slice() == want)
+}
+
+fn are_in_square(alloc: Global) -> Option<[bool; 2]> {
+    let square = Rect::new(0, 0, 10, 10)?;
+    let errors = [(NEAR, stacked(1)), (NEAR, stacked(2)), (FAR, stacked(3))];
+    Some([
+        has_points(alloc, square, &[NEAR, FAR])?,
+        has_errors(alloc, square, &errors)?,
+    ])
+}
+
+#[test]
+fn errors_under_a_rectangle(rt: HostRuntime) {
+    assert_eq!(rt; are_in_square(rt.alloc()), Some([true; 2]));
 }

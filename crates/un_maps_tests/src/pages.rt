@@ -6,93 +6,192 @@ ghost use Rattle.std.specs.declared.ops.Bound.TheVariants.{Included};
 ghost use Rattle.un_pages.specs.Pairs.{from_on};
 
 use std::alloc::{AllocError, Global};
-use std::ops::Bound;
+use std::ops::{Bound, Range};
 use std::sync::Arc;
 use std::test::Fail;
 use un_pages::Paged;
+
+type Numbers = Paged<u64, u64>;
+
+// A change that makes a new map. The value of `Share` is shared before.
+#[derive(Clone, Copy)]
+enum Change {
+    Put(u64, u64),
+    Share(u64, u64),
+    Take(u64),
+}
+
+fn changed(alloc: Global, map: &Numbers, change: Change) -> Result<Numbers, AllocError> {
+    match change {
+        Change::Put(key, value) => map.with(alloc, key, value),
+        Change::Share(key, value) => map.with_shared(alloc, key, Arc::new(alloc, value)?),
+        Change::Take(key) => map.without(alloc, &key),
+    }
+}
+
+// The empty map, and the map after each change.
+fn versions(alloc: Global, changes: &[Change]) -> Result<Vec<Numbers>, AllocError> {
+    let mut versions = vec![in alloc; Paged::new()]?;
+    for change in changes {
+        if let Some(newest) = versions.last() {
+            let next = changed(alloc, newest, *change)?;
+            versions.push(next)?;
+        }
+    }
+    Ok(versions)
+}
+
+// The count of a map, and its values at the keys 3 and 7.
+type Seen = (u64, Option<u64>, Option<u64>);
+
+fn seen(map: &Numbers) -> Seen {
+    (map.len(), map.get(&3).copied(), map.get(&7).copied())
+}
+
+fn all_seen(alloc: Global, maps: &[Numbers]) -> Result<Vec<Seen>, AllocError> {
+    let mut all = Vec::with_capacity(alloc, maps.len())?;
+    for map in maps {
+        all.push(seen(map))?;
+    }
+    Ok(all)
+}
+
+// Whether these are all the versions, looked at after the last change.
+fn has_versions(alloc: Global, changes: &[Change], want: &[Seen]) -> Result<bool, AllocError> {
+    let versions = versions(alloc, changes)?;
+    let all = all_seen(alloc, &versions)?;
+    Ok(all.as_slice() == want)
+}
+
+#[test]
+fn new_maps_leave_the_old_one(rt: HostRuntime) {
+    let changes = [
+        Change::Put(7, 70),
+        Change::Share(3, 30),
+        Change::Put(7, 71),
+        Change::Take(3),
+    ];
+    let want = [
+        (0, None, None),
+        (1, None, Some(70)),
+        (2, Some(30), Some(70)),
+        (2, Some(30), Some(71)),
+        (1, None, Some(71)),
+    ];
+    assert_eq!(rt; has_versions(rt.alloc(), &changes, &want).ok(), Some(true));
+}
+
+fn map_of_one(alloc: Global) -> Result<Numbers, AllocError> {
+    Paged::new().with(alloc, 7, 70)
+}
+
+fn shared(alloc: Global) -> Result<Seen, AllocError> {
+    let map = map_of_one(alloc)?;
+    Ok(seen(&map.share()?))
+}
+
+// What is left where a key that is not there is taken out.
+fn without_another(alloc: Global) -> Result<Seen, AllocError> {
+    let map = map_of_one(alloc)?;
+    Ok(seen(&map.without(alloc, &8)?))
+}
+
+#[test]
+fn equal_maps(rt: HostRuntime) {
+    let maps = [shared(rt.alloc()).ok(), without_another(rt.alloc()).ok()];
+    assert_eq!(rt; maps, [Some((1, None, Some(70))); 2]);
+}
+
+fn map_of_two(alloc: Global) -> Result<Numbers, AllocError> {
+    map_of_one(alloc)?.with(alloc, 3, 30)
+}
+
+fn pair_after(map: &Numbers, after: Option<u64>) -> Option<(u64, u64)> {
+    map.next(after).map(|pair| (pair.0, **pair.1))
+}
+
+fn pairs_after(alloc: Global) -> Result<[Option<(u64, u64)>; 4], AllocError> {
+    let map = map_of_two(alloc)?;
+    Ok([None, Some(3), Some(5), Some(7)].map(|after| pair_after(&map, after)))
+}
+
+#[test]
+fn next_goes_through_the_keys_in_order(rt: HostRuntime) {
+    let want = [Some((3, 30)), Some((7, 70)), Some((7, 70)), None];
+    assert_eq!(rt; pairs_after(rt.alloc()).ok(), Some(want));
+}
 
 // Spreads the numbers over all keys, each to a key of its own.
 fn scattered(k: u64) -> u64 {
     k.wrapping_mul(0x9e37_79b9_7f4a_7c15)
 }
 
-#[test]
-fn new_maps_leave_the_old_one(rt: HostRuntime) -> Result<(), Fail> {
-    let empty = Paged::new();
-    let one = empty.with(rt.alloc(), 7u64, 70u64)?;
-    let two = one.with_shared(rt.alloc(), 3, Arc::new(rt.alloc(), 30)?)?;
-    let changed = two.with(rt.alloc(), 7, 71)?;
-    let less = changed.without(rt.alloc(), &3)?;
-    assert_eq!(rt; empty.len(), 0);
-    assert_eq!(rt; one.len(), 1);
-    assert_eq!(rt; two.len(), 2);
-    assert_eq!(rt; changed.len(), 2);
-    assert_eq!(rt; less.len(), 1);
-    assert_eq!(rt; two.get(&7).copied(), Some(70));
-    assert_eq!(rt; changed.get(&7).copied(), Some(71));
-    assert_eq!(rt; changed.get(&3).copied(), Some(30));
-    assert_eq!(rt; less.get(&3).copied(), None);
-    Ok(())
+// The empty map, and the map after each of so many numbers.
+fn growing(alloc: Global, count: u64) -> Result<Vec<Numbers>, AllocError> {
+    let mut versions = vec![in alloc; Paged::new()]?;
+    for k in 0..count {
+        if let Some(newest) = versions.last() {
+            let next = newest.with(alloc, scattered(k), k)?;
+            versions.push(next)?;
+        }
+    }
+    Ok(versions)
 }
 
-#[test]
-fn equal_maps(rt: HostRuntime) -> Result<(), Fail> {
-    let map = Paged::new().with(rt.alloc(), 7u64, 70u64)?;
-    let same = map.share()?;
-    let kept = map.without(rt.alloc(), &8)?;
-    assert_eq!(rt; same.len(), 1);
-    assert_eq!(rt; same.get(&7).copied(), Some(70));
-    assert_eq!(rt; kept.len(), 1);
-    assert_eq!(rt; kept.get(&7).copied(), Some(70));
-    Ok(())
-}
-
-#[test]
-fn next_goes_through_the_keys_in_order(rt: HostRuntime) -> Result<(), Fail> {
-    let map = Paged::new()
-        .with(rt.alloc(), 7u64, 70u64)?
-        .with(rt.alloc(), 3, 30)?;
-    assert_eq!(rt; map.next(None).map(|p| (p.0, **p.1)), Some((3, 30)));
-    assert_eq!(rt; map.next(Some(3)).map(|p| (p.0, **p.1)), Some((7, 70)));
-    assert_eq!(rt; map.next(Some(5)).map(|p| (p.0, **p.1)), Some((7, 70)));
-    assert_eq!(rt; map.next(Some(7)).map(|p| (p.0, **p.1)), None);
-    Ok(())
+// How many versions there are, if each has one pair more than the one before it.
+fn counted(versions: &[Numbers]) -> Option<u64> {
+    let mut count = 0u64;
+    for version in versions {
+        if version.len() != count {
+            return None;
+        }
+        count = count.wrapping_add(1);
+    }
+    Some(count)
 }
 
 #[test]
 fn keeps_sixty_thousand_versions(rt: HostRuntime) -> Result<(), Fail> {
-    let mut versions = vec![in rt.alloc(); Paged::new()]?;
-    for k in 0..60_000u64 {
-        if let Some(newest) = versions.last() {
-            let next = newest.with(rt.alloc(), scattered(k), k)?;
-            versions.push(next)?;
-        }
-    }
-    let mut count = 0u64;
-    for version in &versions {
-        assert_eq!(rt; version.len(), count);
-        count = count.wrapping_add(1);
-    }
-    assert_eq!(rt; count, 60_001);
+    let versions = growing(rt.alloc(), 60_000)?;
+    assert_eq!(rt; counted(&versions), Some(60_001));
     Ok(())
 }
 
-#[test]
-fn removals_join_pages_and_keep_the_rest(rt: HostRuntime) -> Result<(), Fail> {
+fn filled(alloc: Global, count: u64) -> Result<Numbers, AllocError> {
     let mut map = Paged::new();
-    for k in 0..20_000u64 {
-        map = map.with(rt.alloc(), scattered(k), k)?;
+    for k in 0..count {
+        map = map.with(alloc, scattered(k), k)?;
     }
-    let full = map.share()?;
-    for k in 0..19_990u64 {
-        map = map.without(rt.alloc(), &scattered(k))?;
+    Ok(map)
+}
+
+fn without_first(alloc: Global, full: &Numbers, count: u64) -> Result<Numbers, AllocError> {
+    let mut map = full.share()?;
+    for k in 0..count {
+        map = map.without(alloc, &scattered(k))?;
     }
-    assert_eq!(rt; full.len(), 20_000);
-    assert_eq!(rt; full.get(&scattered(5)).copied(), Some(5));
-    assert_eq!(rt; map.len(), 10);
-    assert_eq!(rt; map.get(&scattered(5)).copied(), None);
-    assert_eq!(rt; map.get(&scattered(19_995)).copied(), Some(19_995));
-    Ok(())
+    Ok(map)
+}
+
+// The count of a map, and the values of an early and of a late number.
+fn ends(map: &Numbers) -> Seen {
+    let early = map.get(&scattered(5)).copied();
+    let late = map.get(&scattered(19_995)).copied();
+    (map.len(), early, late)
+}
+
+// A map of 20,000 numbers, and the map of the last ten of them.
+fn full_and_rest(alloc: Global) -> Result<(Seen, Seen), AllocError> {
+    let full = filled(alloc, 20_000)?;
+    let rest = without_first(alloc, &full, 19_990)?;
+    Ok((ends(&full), ends(&rest)))
+}
+
+#[test]
+fn removals_join_pages_and_keep_the_rest(rt: HostRuntime) {
+    let full = (20_000, Some(5), Some(19_995));
+    let rest = (10, None, Some(19_995));
+    assert_eq!(rt; full_and_rest(rt.alloc()).ok(), Some((full, rest)));
 }
 
 // What callers prove of chains over a range.
@@ -126,22 +225,37 @@ fn how_many(kept: &Paged<u64, u64>, first: u64) -> usize
     kept.range(Bound::Included(first)).count()
 }
 
+fn put(alloc: Global, map: &mut Numbers, key: u64, value: u64) -> Result<(), AllocError> {
+    let value = Arc::new(alloc, value)?;
+    map.put(alloc, key, value)
+}
+
+// A map of so many keys in a row.
+fn consecutive(alloc: Global, count: u64) -> Result<Numbers, AllocError> {
+    let mut map = Paged::new();
+    for k in 0..count {
+        put(alloc, &mut map, k, k % 100)?;
+    }
+    Ok(map)
+}
+
+// The last key after 7,000, if the range goes from there through each key.
+fn last_in_range(map: &Numbers) -> Option<u64> {
+    let mut last = 7_000u64;
+    for (key, value) in map.range(Bound::Excluded(7_000)) {
+        last = last.wrapping_add(1);
+        if key != last || **value != last % 100 {
+            return None;
+        }
+    }
+    Some(last)
+}
+
 #[test]
 fn range_goes_over_the_pages_in_order(rt: HostRuntime) -> Result<(), Fail> {
-    let mut map = Paged::new();
-    for k in 0..20_000u64 {
-        map.put(rt.alloc(), k, Arc::new(rt.alloc(), k % 100)?)?;
-    }
-    assert_eq!(rt; map.len(), 20_000);
-    let mut next = 7_001u64;
-    for (key, value) in map.range(Bound::Excluded(7_000)) {
-        assert_eq!(rt; key, next);
-        assert_eq!(rt; **value, next % 100);
-        next = next.wrapping_add(1);
-    }
-    assert_eq!(rt; next, 20_000);
-    assert_eq!(rt; map.range(Bound::Unbounded).count(), 20_000);
-    assert_eq!(rt; map.range(Bound::Included(20_000)).count(), 0);
+    let map = consecutive(rt.alloc(), 20_000)?;
+    let found = (counts(&map), how_many(&map, 20_000), last_in_range(&map));
+    assert_eq!(rt; found, ((20_000, 20_000), 0, Some(19_999)));
     Ok(())
 }
 
@@ -152,35 +266,71 @@ fn map_is_sync<K: Ord + Copy + Send + Sync, V: Drop + Send + Sync>(map: &Paged<K
     needs_sync(map);
 }
 
+fn put_all(alloc: Global, map: &mut Numbers) -> Result<(), AllocError> {
+    for k in 0..5_000u64 {
+        put(alloc, map, scattered(k), k)?;
+    }
+    Ok(())
+}
+
+// Adds one to the value of each key, and as many keys.
+fn change_all(alloc: Global, map: &mut Numbers) -> Result<(), AllocError> {
+    for k in 0..5_000u64 {
+        put(alloc, map, scattered(k), k + 1)?;
+        put(alloc, map, scattered(k + 5_000), k)?;
+    }
+    Ok(())
+}
+
+// Takes each of these keys twice.
+fn take_twice(alloc: Global, map: &mut Numbers, keys: Range<u64>) -> Result<(), AllocError> {
+    for k in keys {
+        map.take(alloc, &scattered(k))?;
+        map.take(alloc, &scattered(k))?;
+    }
+    Ok(())
+}
+
+// The first number of an old map that is not as it was.
+fn first_changed(old: &Numbers) -> Option<u64> {
+    for k in 0..5_000u64 {
+        if old.get(&scattered(k)).copied() != Some(k) {
+            return Some(k);
+        }
+    }
+    None
+}
+
+// The first number that is not as the changes left it.
+fn first_unchanged(map: &Numbers) -> Option<u64> {
+    for k in 0..5_000u64 {
+        let changed = if k < 2_500 { Some(k + 1) } else { None };
+        let found = map.get(&scattered(k)).copied();
+        let added = map.get(&scattered(k + 5_000)).copied();
+        if found != changed || added != Some(k) {
+            return Some(k);
+        }
+    }
+    None
+}
+
+// The count of a map, and how many pairs its range has.
+fn counts(map: &Numbers) -> (u64, usize) {
+    (map.len(), map.range(Bound::Unbounded).count())
+}
+
 #[test]
 fn changes_in_place_leave_a_shared_map(rt: HostRuntime) -> Result<(), Fail> {
+    let alloc = rt.alloc();
     let mut map = Paged::new();
-    for k in 0..5_000u64 {
-        map.put(rt.alloc(), scattered(k), Arc::new(rt.alloc(), k)?)?;
-    }
+    put_all(alloc, &mut map)?;
     map_is_sync(&map);
     let old = map.share()?;
-    for k in 0..5_000u64 {
-        map.put(rt.alloc(), scattered(k), Arc::new(rt.alloc(), k + 1)?)?;
-        map.put(rt.alloc(), scattered(k + 5_000), Arc::new(rt.alloc(), k)?)?;
-    }
-    for k in 2_500..5_000u64 {
-        map.take(rt.alloc(), &scattered(k))?;
-        map.take(rt.alloc(), &scattered(k))?;
-    }
-    assert_eq!(rt; old.len(), 5_000);
-    assert_eq!(rt; map.len(), 7_500);
-    for k in 0..5_000u64 {
-        assert_eq!(rt; old.get(&scattered(k)).copied(), Some(k));
-        let changed = if k < 2_500 { Some(k + 1) } else { None };
-        assert_eq!(rt; map.get(&scattered(k)).copied(), changed);
-        assert_eq!(rt; map.get(&scattered(k + 5_000)).copied(), Some(k));
-    }
-    assert_eq!(rt; map.range(Bound::Unbounded).count(), 7_500);
-    for k in 0..10_000u64 {
-        map.take(rt.alloc(), &scattered(k))?;
-    }
-    assert_eq!(rt; map.len(), 0);
-    assert_eq!(rt; old.len(), 5_000);
+    change_all(alloc, &mut map)?;
+    take_twice(alloc, &mut map, 2_500..5_000)?;
+    let found = (first_changed(&old), first_unchanged(&map), counts(&map));
+    take_twice(alloc, &mut map, 0..10_000)?;
+    assert_eq!(rt; found, (None, None, (7_500, 7_500)));
+    assert_eq!(rt; (map.len(), old.len()), (0, 5_000));
     Ok(())
 }

@@ -20,10 +20,11 @@ ghost use Rattle.un_isolate.specs.Answer.{IsForIsolation, isolation_of};
 ghost use Rattle.un_isolate.specs.Isolation.{isolates, is_isolating};
 ghost use Rattle.un_walk_tests.specs.Pipes.{node_at, ground_of};
 
+use crate::parts::{Numbered, has_parts};
 use crate::pipes::{Laid, Pipe, Role, Stand, joint, laid_out, node, path, port, segment};
 use std::alloc::{AllocError, Global};
 use std::test::Fail;
-use un_ask::{Funcs, Include, Parts, Refusal, Reply, TraceKind, TypedAsk};
+use un_ask::{Funcs, Include, Refusal, Reply, TraceKind, TypedAsk};
 use un_conds::{Cond, Names, RawCond, Text, holds};
 use un_defs::port::{Nodes, Ports};
 use un_defs::{Barriers, Port, Spot};
@@ -71,21 +72,33 @@ fn add_main(pipes: &mut Vec<Pipe>, main: u64, first: Port, last: Port) -> Result
     Ok(())
 }
 
+/// The mains, each with the feature and the terminal at its two ends.
+const MAINS: [(u64, (u64, u8), (u64, u8)); 12] = [
+    (13, (1, 2), (2, 1)),
+    (14, (2, 1), (9, 1)),
+    (15, (9, 2), (3, 1)),
+    (16, (2, 1), (4, 1)),
+    (17, (4, 1), (10, 1)),
+    (18, (10, 2), (5, 1)),
+    (19, (5, 1), (3, 1)),
+    (20, (3, 1), (11, 1)),
+    (21, (11, 2), (6, 1)),
+    (22, (6, 1), (7, 1)),
+    (23, (4, 1), (12, 1)),
+    (24, (12, 2), (8, 1)),
+];
+
 /// The paths of the pump and of the valves, which are all open, and the mains.
 fn pipes(alloc: Global) -> Result<Vec<Pipe>, AllocError> {
     let mut pipes = vec![in alloc; path(1), path(9), path(10), path(11), path(12)]?;
-    add_main(&mut pipes, 13, port(1, 2), port(2, 1))?;
-    add_main(&mut pipes, 14, port(2, 1), port(9, 1))?;
-    add_main(&mut pipes, 15, port(9, 2), port(3, 1))?;
-    add_main(&mut pipes, 16, port(2, 1), port(4, 1))?;
-    add_main(&mut pipes, 17, port(4, 1), port(10, 1))?;
-    add_main(&mut pipes, 18, port(10, 2), port(5, 1))?;
-    add_main(&mut pipes, 19, port(5, 1), port(3, 1))?;
-    add_main(&mut pipes, 20, port(3, 1), port(11, 1))?;
-    add_main(&mut pipes, 21, port(11, 2), port(6, 1))?;
-    add_main(&mut pipes, 22, port(6, 1), port(7, 1))?;
-    add_main(&mut pipes, 23, port(4, 1), port(12, 1))?;
-    add_main(&mut pipes, 24, port(12, 2), port(8, 1))?;
+    for &(main, first, last) in &MAINS {
+        add_main(
+            &mut pipes,
+            main,
+            port(first.0, first.1),
+            port(last.0, last.1),
+        )?;
+    }
     Ok(pipes)
 }
 
@@ -179,66 +192,37 @@ fn is_valve(alloc: Global) -> Result<Cond, Fail> {
     Ok(Cond::resolve(alloc, &RawCond::Has(name), &Isolating)?)
 }
 
-/// Adds the ports of a feature.
-fn add_ports(ports: &mut Vec<Port>, feature: u64, numbers: &[u8]) -> Result<(), AllocError> {
-    for number in numbers {
-        ports.push(port(feature, *number))?;
-    }
-    Ok(())
-}
-
-fn ports_of(alloc: Global, parts: &Parts) -> Result<Vec<Port>, AllocError> {
-    let mut ports = Vec::new(alloc);
-    for part in parts.as_slice() {
-        add_ports(&mut ports, part.feature, part.numbers.as_slice())?;
-    }
-    Ok(ports)
-}
-
-/// The borders and the ports of the part, if the reply has them.
-fn cut(alloc: Global, reply: Reply) -> Result<Option<(Ports, Vec<Port>)>, AllocError> {
+/// Whether the reply has exactly these borders, and a part of exactly these features with their ports.
+fn is_cut(reply: &Reply, border: &[Port], part: &[Numbered]) -> bool {
     match reply {
         Reply::Isolation {
             borders,
             features,
             version: 0,
-        } => {
-            let part = ports_of(alloc, &features)?;
-            Ok(Some((borders, part)))
-        }
-        _ => Ok(None),
+        } => borders.as_slice() == border && has_parts(features.as_slice(), part),
+        _ => false,
     }
 }
 
 #[test]
 fn two_valves_cut_off_the_zone(rt: HostRuntime) -> Result<(), Fail> {
-    let alloc = rt.alloc();
-    let reply = isolated_from(alloc, port(3, 1), is_valve(alloc)?)?;
-    let (borders, part) = cut(alloc, reply)?.ok_or("the reply has borders and features")?;
-    assert_eq!(rt; borders.as_slice(), [port(9, 2), port(10, 2)].as_slice());
-    let expected = vec![in alloc;
-        port(3, 1),
-        port(5, 1),
-        port(6, 1),
-        port(7, 1),
-        port(9, 2),
-        port(10, 2),
-        port(11, 1),
-        port(11, 2),
-        port(15, 0),
-        port(15, 1),
-        port(18, 0),
-        port(18, 1),
-        port(19, 0),
-        port(19, 1),
-        port(20, 0),
-        port(20, 1),
-        port(21, 0),
-        port(21, 1),
-        port(22, 0),
-        port(22, 1),
-    ]?;
-    assert_eq!(rt; part.as_slice(), expected.as_slice());
+    let part: &[Numbered] = &[
+        (3, &[1]),
+        (5, &[1]),
+        (6, &[1]),
+        (7, &[1]),
+        (9, &[2]),
+        (10, &[2]),
+        (11, &[1, 2]),
+        (15, &[0, 1]),
+        (18, &[0, 1]),
+        (19, &[0, 1]),
+        (20, &[0, 1]),
+        (21, &[0, 1]),
+        (22, &[0, 1]),
+    ];
+    let reply = isolated_from(rt.alloc(), port(3, 1), is_valve(rt.alloc())?)?;
+    assert!(rt; is_cut(&reply, &[port(9, 2), port(10, 2)], part));
     Ok(())
 }
 

@@ -6,7 +6,11 @@ mod isolation;
 #[cfg(test)]
 mod loops;
 #[cfg(test)]
+mod parts;
+#[cfg(test)]
 mod pipes;
+#[cfg(test)]
+mod pump;
 #[cfg(test)]
 mod traces;
 #[cfg(test)]
