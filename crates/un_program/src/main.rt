@@ -38,7 +38,7 @@ fn no_words(fault: &io::Error) -> u8 {
     }
 }
 
-// Runs a script from standard input to standard output.
+// Runs a script from standard input to standard output, or writes the line of a generated network.
 fn script(rt: &HostRuntime, words: &[Word]) -> u8 {
     let mut source = ReadSource::new(rt.stdin());
     let mut sink = WriteSink::new(rt.stdout());
@@ -46,27 +46,24 @@ fn script(rt: &HostRuntime, words: &[Word]) -> u8 {
     run_script(rt.alloc(), words, &mut source, &mut sink, &mut steps)
 }
 
-// Serves the links that arrive at a port of the loopback.
-fn serve(rt: &HostRuntime, words: &[Word], port: u16) -> u8 {
-    let Ok(listener) = TcpListener::bind(rt, SocketAddr::from((Ipv4Addr::LOCALHOST, port))) else {
-        return NO_DOOR;
-    };
-    let mut door = TcpDoor::new(listener);
-    let mut schema = ReadSource::new(rt.stdin());
-    run_serve(rt, rt.alloc(), words, &mut schema, &mut door)
-}
-
-// Does what the words say.
-fn run(rt: &HostRuntime, words: &[Word]) -> u8 {
-    match read_words(words) {
-        Some(ProgramCommand::Serve { port, workers: _ }) => serve(rt, words, port),
-        _ => script(rt, words),
-    }
+// Listens at a port of the loopback.
+fn listen(rt: &HostRuntime, port: u16) -> io::Result<TcpDoor> {
+    let address = SocketAddr::from((Ipv4Addr::LOCALHOST, port));
+    Ok(TcpDoor::new(TcpListener::bind(rt, address)?))
 }
 
 fn main(rt: HostRuntime) -> ExitCode {
     let status = match words(&rt) {
-        Ok(words) => run(&rt, words.as_slice()),
+        Ok(words) => match read_words(words.as_slice()) {
+            Some(ProgramCommand::Serve { port, workers: _ }) => match listen(&rt, port) {
+                Ok(mut door) => {
+                    let mut schema = ReadSource::new(rt.stdin());
+                    run_serve(&rt, rt.alloc(), words.as_slice(), &mut schema, &mut door)
+                }
+                Err(_) => NO_DOOR,
+            },
+            _ => script(&rt, words.as_slice()),
+        },
         Err(fault) => no_words(&fault),
     };
     if status == NO_COMMAND {
