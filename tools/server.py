@@ -2,6 +2,7 @@
 import http.client
 import os
 import socket
+import struct
 import subprocess
 import sys
 import tempfile
@@ -111,6 +112,11 @@ class Link:
     def finish(self):
         """No more bytes will be sent."""
         self.socket.shutdown(socket.SHUT_WR)
+
+    def break_off(self):
+        """Ends the link at once, whatever is on its way."""
+        self.socket.setsockopt(socket.SOL_SOCKET, socket.SO_LINGER, struct.pack("ii", 1, 0))
+        self.socket.close()
 
     def read(self, most=None):
         """So many bytes, or all up to the end. What came before a fault, where the link has one or waits too long."""
