@@ -134,7 +134,11 @@ impl Door for TcpDoor {
 
     fn next(&mut self) -> Came<TcpLink> {
         match self.listener.accept() {
-            Ok((stream, _)) => Came::Line(StreamLink::new(stream)),
+            Ok((stream, _)) => {
+                // Without it a response in two writes waits for the client's delayed acknowledgement. A link works either way.
+                let _ = stream.set_nodelay(true);
+                Came::Line(StreamLink::new(stream))
+            }
             Err(_) => {
                 self.faults = self.faults.saturating_add(1);
                 Came::Failed

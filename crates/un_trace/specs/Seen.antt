@@ -10,6 +10,10 @@ use Rattle.un_walk.specs.Seen.{is_barrier_by}
 abbrev pub is_in_result : Barriers → Bool → Seen → Bool
 is_in_result B with_barriers s = with_barriers || not (is_barrier_by B s)
 
+-- those that are in the result
+abbrev pub in_result : Barriers → Bool → List Seen → List Seen
+in_result B with_barriers seen = filter (is_in_result B with_barriers) seen
+
 -- the entries of those that have one
 abbrev pub spots_of : List Seen → List Spot
 spots_of seen = filter_map spot_of seen

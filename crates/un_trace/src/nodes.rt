@@ -1,7 +1,7 @@
 //! The nodes of a result with their entries.
 
-ghost use Rattle.std.specs.Prelude.{◌≡◌, filter, IfOk};
-ghost use Rattle.un_trace.specs.Seen.{is_in_result};
+ghost use Rattle.std.specs.Prelude.{◌≡◌, IfOk};
+ghost use Rattle.un_trace.specs.Seen.{in_result};
 
 use std::alloc::{AllocError, Global};
 use un_defs::Barriers;
@@ -14,7 +14,7 @@ pub(crate) fn seen_in_result<'a>(
     barriers: &Barriers,
     with_barriers: bool,
 ) -> Result<Vec<Seen<'a>>, AllocError>
-    ensures { IfOk result (λ seen. seen.items ≡ filter (is_in_result barriers.now with_barriers) reached.now) }
+    ensures { IfOk result (λ seen. seen.items ≡ in_result barriers.now with_barriers reached.now) }
 {
     let mut seen = Vec::new(alloc);
     for one in reached {
