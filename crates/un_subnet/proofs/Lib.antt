@@ -5,6 +5,7 @@ pub mod Either
 pub mod Growing
 pub mod MadeDirty
 pub mod NoMemory
+pub mod Ordered
 pub mod Pairwise
 pub mod SameStar
 pub mod Searching

@@ -5,4 +5,5 @@ pub mod Answer
 pub mod Outcome
 pub mod SameStar
 pub mod Changes
+pub mod Stored
 pub mod Laws

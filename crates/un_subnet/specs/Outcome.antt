@@ -1,9 +1,5 @@
 -- What an update does to the stored rows, by its caller's part too.
-use Rattle.std.specs.Prelude.{ℕ, ◌==◌, nat_le, Bool, false, true, not, ◌&&◌, List, [], ◌∷◌, filter, length, Option, None, Some, if◌then◌else◌}
-use Rattle.std.specs.declared.cmp.Ordering.{Ordering}
-use Rattle.std.specs.Ordering.{nat_cmp, ordering_then}
-use Rattle.std.specs.Cmp.Lexicographic.{slice_cmp}
-use Rattle.std.specs.BTreeSet.{insert_key}
+use Rattle.std.specs.Prelude.{ℕ, ◌==◌, nat_le, Bool, false, true, not, ◌&&◌, List, [], ◌∷◌, ◌++◌, filter, length, Option, None, Some, option_to_list, if◌then◌else◌}
 use Rattle.std.specs.List.{list_any}
 use Rattle.std.specs.Option.{option_map_or}
 use Rattle.un_conds.specs.Conditions.{Condition}
@@ -111,15 +107,10 @@ stored_row (refuses r) version = None
 stored_row removes version = None
 stored_row (stores row) version = Some (record row { updated = version })
 
--- stored rows compare by tier, then by name
-abbrev pub row_cmp : StoredSubnet → StoredSubnet → Ordering
-row_cmp a b = ordering_then (nat_cmp a.tier b.tier) (slice_cmp nat_cmp a.subnet b.subnet)
-
 -- the rows of other subnetworks
 abbrev pub other_rows : List StoredSubnet → ℕ → List ℕ → List StoredSubnet
 other_rows rows tier subnet = filter (λ row. not (is_row_of tier subnet row)) rows
 
--- the stored rows after an outcome that is no refusal: those of other subnetworks, and in its place the one that is stored
+-- the stored rows after an outcome that is no refusal: those of other subnetworks, and behind them the one that is stored
 abbrev pub rows_after : Outcome → ℕ → List StoredSubnet → ℕ → List ℕ → List StoredSubnet
-rows_after outcome version rows tier subnet =
-    option_map_or (insert_key row_cmp (other_rows rows tier subnet)) (stored_row outcome version) (other_rows rows tier subnet)
+rows_after outcome version rows tier subnet = other_rows rows tier subnet ++ option_to_list (stored_row outcome version)

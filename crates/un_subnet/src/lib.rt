@@ -46,8 +46,10 @@ pub mod laws;
 mod row;
 pub mod same_star;
 mod sorted;
+pub mod stored;
 
 pub use answer::update;
 pub use ask::update_ask;
 pub use changes::{StarChanges, star_changes};
 pub use same_star::is_same_star;
+pub use stored::StoredRows;

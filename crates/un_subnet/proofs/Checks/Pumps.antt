@@ -128,5 +128,5 @@ row_alone = refl
 row_removed : rows_after (update (joined []) false (row (codes "A") ∷ row (codes "B") ∷ [])) 9 (row (codes "A") ∷ row (codes "B") ∷ []) 0 (codes "A") ≡ row (codes "B") ∷ []
 row_removed = refl
 
-row_replaced : map (λ r. r.updated) (rows_after (update one false (row (codes "A") ∷ row (codes "B") ∷ [])) 9 (row (codes "A") ∷ row (codes "B") ∷ []) 0 (codes "A")) ≡ 9 ∷ 1 ∷ []
+row_replaced : map (λ r. r.updated) (rows_after (update one false (row (codes "A") ∷ row (codes "B") ∷ [])) 9 (row (codes "A") ∷ row (codes "B") ∷ []) 0 (codes "A")) ≡ 1 ∷ 9 ∷ []
 row_replaced = refl
