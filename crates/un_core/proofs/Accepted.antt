@@ -90,7 +90,8 @@ known_may_happen s (command.Batch es) is schema known cause =
     let refused = none_refused (option_map (λ p. p.1) (first_refused s 0 es)) [] behind_numbers.1 in
     batch_may_be_made s 0 es is schema (all_of_features es known) (unmapped (λ p. p.1) (first_refused s 0 es) refused.0)
 known_may_happen s (command.Validate extent) is schema known cause = tt
-known_may_happen s _ is schema known cause = absurd (true≢false (sym known))
+known_may_happen s (command.Update tier subnet) is schema known cause = tt
+known_may_happen s (command.Rule rule) is schema known cause = absurd (true≢false (sym known))
 
 pub may_happen : MayLaw
 may_happen s c is schema none =

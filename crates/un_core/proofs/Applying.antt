@@ -17,7 +17,9 @@ use Rattle.un_ask.specs.declared.reply.Reply.TheVariants as reply
 use Rattle.un_core.specs.State.{State}
 use Rattle.un_core.specs.Step.{id_of, ids_of_all, dirtied_by_batch, edited, batched, next_state, dirtied_by}
 use Rattle.un_core.specs.Validation.{met, errors_under, validated}
-use Rattle.un_core.specs.Refusals.{edit_refusal, batch_refusal, refused_place, numbers_refusal}
+use Rattle.un_core.specs.Refusals.{edit_refusal, batch_refusal, update_refusal, refused_place, numbers_refusal}
+use Rattle.un_core.specs.Updating.{updated, updated_reply}
+use Rattle.un_ask.specs.declared.reply.Reply.{Reply}
 use Rattle.un_facts.specs.Refusals.{is_of_features}
 use Rattle.un_core.specs.Commands.{is_known, known_refusal, command_refusal, refusal_reply, refused_edit, accepted, step, word_of, areas_of_edit, edit_reply, first_and_count, refused}
 
@@ -111,6 +113,17 @@ validation_done s extent next next_is cause cleared errors version mark cleared_
 
 pub validation_refused : (s : State) (extent : Rectangle) (r : Refusal) → numbers_refusal s ≡ Some r → inr (refused s r) ≡ step s (command.Validate extent)
 validation_refused s extent r cause = sym (step_refused s (command.Validate extent) r refl cause)
+
+-- ---- updates
+
+pub update_done : (s : State) (tier subnet : List ℕ) (next : State) → next ≡ updated s tier subnet → update_refusal s tier subnet ≡ None
+    → (reply : Reply) (mark : List Rectangle) → reply ≡ updated_reply s tier subnet → mark ≡ []
+    → inl (next, (reply, mark)) ≡ step s (command.Update tier subnet)
+update_done s tier subnet next next_is cause reply mark reply_is mark_is =
+    (λ i. inl (next_is i, (reply_is i, mark_is i))) ∙ sym (step_done s (command.Update tier subnet) refl cause)
+
+pub update_refused : (s : State) (tier subnet : List ℕ) (r : Refusal) → update_refusal s tier subnet ≡ Some r → inr (refused s r) ≡ step s (command.Update tier subnet)
+update_refused s tier subnet r cause = sym (step_refused s (command.Update tier subnet) r refl cause)
 
 -- ---- areas
 

@@ -14,6 +14,7 @@ use Rattle.un_defs.specs.Dirtied.{dirtied}
 use Rattle.un_defs.proofs.LinkCases.{both_true}
 use Rattle.un_defs.specs.Refusing.{first_refusal}
 use Rattle.un_dirty.specs.Areas.{DirtyList}
+use Rattle.un_ask.specs.declared.stored.StoredSubnet.{StoredSubnet}
 use Rattle.un_facts.specs.declared.ids.NextIds.{NextIds}
 use Rattle.un_facts.specs.Known.{Known, settled_at as settled_known}
 use Rattle.un_facts.specs.Refusals.{is_of_features}
@@ -91,8 +92,8 @@ module _ (s : State) (es : List Edit) (place : ℕ) (t : State) (ids rows : List
 -- ---- the moments
 
 -- the state once the moments are settled
-pub batched_is : (s : State) (es : List Edit) → (K : Known) (kept : List (Point × Star)) (dirty : DirtyList) (version moment : ℕ) (ids : NextIds) (rows : List ℕ)
-    → held K kept dirty version ids ≡ made_by_all s es → rows ≡ touched_by_all s es → moment ≡ s.version + 1
-    → held (settled_known K rows moment) kept dirty moment ids ≡ batched s es
-batched_is s es K kept dirty version moment ids rows made are moment_is =
+pub batched_is : (s : State) (es : List Edit) → (K : Known) (kept : List (Point × Star)) (dirty : DirtyList) (stored : List StoredSubnet) (version moment : ℕ) (ids : NextIds) (rows : List ℕ)
+    → held K kept dirty stored version ids ≡ made_by_all s es → rows ≡ touched_by_all s es → moment ≡ s.version + 1
+    → held (settled_known K rows moment) kept dirty stored moment ids ≡ batched s es
+batched_is s es K kept dirty stored version moment ids rows made are moment_is =
     λ i. record (made i) { features = settled_at (moment_is i) (are i) (made i).features; version = moment_is i }

@@ -17,6 +17,7 @@ use Rattle.un_core.specs.Clearing.{ValidationLaw}
 use Rattle.un_core.proofs.LookUps.{Pairs, kept_by, sorted_map, missing, missing_kept, stars_kept}
 use Rattle.un_core.proofs.Nonempty.{table_sorted}
 use Rattle.un_core.proofs.Canonical.{AreNonempty, canonical}
+use Rattle.un_core.proofs.Marking.{are_marked}
 use Rattle.un_core.proofs.Rebuilding.{rebuilt_under, rebuilt_elsewhere, rebuilt_sorted, rebuilt_nonempty, stars_fresh, nonempty_fresh}
 
 module _ (s : State) (is : IsState s) (extent : Rectangle) where
@@ -63,6 +64,7 @@ validation_does s extent is = record {
     areas = refl;
     fresh = λ p e. rebuilt_under s (met extent s.areas) is.sound (sorted_map s.kept is.sorted) p e;
     kept = λ p e. rebuilt_elsewhere s (met extent s.areas) (sorted_map s.kept is.sorted) p e;
+    stored = are_marked s is (met extent s.areas) s.stored;
     features = refl;
     setup = refl;
     version = refl;

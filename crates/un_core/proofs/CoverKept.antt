@@ -25,12 +25,17 @@ use Rattle.un_defs.proofs.Locality.{locality, or_both}
 use Rattle.un_defs.proofs.KeepsSound.{keeps_sound, all_from}
 use Rattle.un_index.specs.Kept.{stars_of}
 use Rattle.un_core.specs.State.{State, fresh_star, kept_ground}
-use Rattle.un_core.specs.Validation.{met, unmet, is_under, rebuilt}
+use Rattle.un_core.specs.Validation.{met, unmet, is_under, rebuilt, changes_under}
+use Rattle.un_core.specs.Updating.{updated}
 use Rattle.un_ask.specs.declared.request.Command.TheVariants as command
 use Rattle.un_core.specs.Step.{setting, next_with, next_of, made_at, edited, made_by_all, touched_by_all, settled_at, batched}
 use Rattle.un_core.specs.Validation.{validated}
 use Rattle.un_core.specs.Cover.{IsState, PathsStay, MayAllBeMade, MayHappen, CoverLaw}
 use Rattle.un_core.proofs.NextIds.{new_after}
+use Rattle.un_ask.specs.declared.stored.StoredSubnet.{StoredSubnet}
+use Rattle.un_subnet.specs.Stored.{AreOrdered}
+use Rattle.un_subnet.proofs.Ordered.{marked_ordered}
+use Rattle.un_core.proofs.Stored.{rows_ordered}
 use Rattle.un_core.proofs.LookUps.{sorted_map}
 use Rattle.un_facts.proofs.Settled.{settled_sound, settled_star, settled_new}
 use Rattle.un_core.proofs.Rebuilding.{rebuilt_under, rebuilt_elsewhere, rebuilt_sorted, rebuilt_nonempty}
@@ -51,6 +56,7 @@ at_version s version is = record {
   nonempty = is.nonempty;
   cover = is.cover;
   paths = is.paths;
+  stored = is.stored;
 }
 
 module _ (s : State) (is : IsState s) where
@@ -81,6 +87,7 @@ module _ (s : State) (is : IsState s) where
       nonempty = is.nonempty;
       cover = made_cover;
       paths = is.paths;
+      stored = is.stored;
     }
 
   -- the edit is a step to the next version
@@ -125,6 +132,7 @@ module _ (s : State) (is : IsState s) where
           (rebuilt_nonempty s (met extent s.areas) is.sound (λ pair h. from_all (λ pair. pair.1 ≢ empty_star) s.kept is.nonempty pair h));
       cover = validated_cover;
       paths = validated_paths;
+      stored = marked_ordered (changes_under s (met extent s.areas)) s.stored is.stored;
     }
 
 -- ---- a batch
@@ -144,6 +152,7 @@ settled_state s moment ids is = record {
   nonempty = is.nonempty;
   cover = λ p clean. is.cover p clean ∙ settled_star s.setup.schema s.features moment ids is.sound p;
   paths = is.paths;
+  stored = is.stored;
 }
 
 pub batched_state : (s : State) (es : List Edit) → IsState s → MayHappen s (command.Batch es) → IsState (batched s es)
@@ -151,10 +160,29 @@ batched_state s es is may =
     at_version (record (made_by_all s es) { features = settled_at (s.version + 1) (touched_by_all s es) (made_by_all s es).features }) (s.version + 1)
     (settled_state (made_by_all s es) (s.version + 1) (touched_by_all s es) (made_all_state s es is may))
 
+-- ---- an update
+
+pub stored_state : (s : State) (rows : List StoredSubnet) (version : ℕ) → IsState s → AreOrdered rows → IsState (record s { stored = rows; version = version })
+stored_state s rows version is ordered = at_version (record s { stored = rows }) version (record {
+  sound = is.sound;
+  fresh_ids = is.fresh_ids;
+  numbered = is.numbered;
+  numbers = is.numbers;
+  sorted = is.sorted;
+  nonempty = is.nonempty;
+  cover = is.cover;
+  paths = is.paths;
+  stored = ordered;
+})
+
+updated_state : (s : State) (tier subnet : List ℕ) → IsState s → IsState (updated s tier subnet)
+updated_state s tier subnet is = stored_state s (updated s tier subnet).stored (s.version + 1) is (rows_ordered s tier subnet is.stored)
+
 -- ---- all
 
 pub cover_is_kept : CoverLaw
 cover_is_kept s (command.Edit e) is may = edited_state s is e may
 cover_is_kept s (command.Batch es) is may = batched_state s es is may
 cover_is_kept s (command.Validate extent) is may = validated_state s is extent
-cover_is_kept s _ is may = absurd may
+cover_is_kept s (command.Update tier subnet) is may = updated_state s tier subnet is
+cover_is_kept s (command.Rule rule) is may = absurd may

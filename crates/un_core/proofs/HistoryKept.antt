@@ -134,4 +134,6 @@ kept_is_history S (command.Validate extent ∷ before) may =
       kept = λ p. validated_kept S before extent p (all_states S before may.1) before_is;
     }
 kept_is_history S (command.Rule rule ∷ before) may = absurd may.0
-kept_is_history S (command.Update tier subnet ∷ before) may = absurd may.0
+kept_is_history S (command.Update tier subnet ∷ before) may =
+    let before_is = kept_is_history S before may.1 in
+    record { areas = sym (append-nil (after_all S before).areas) ∙ grown S (command.Update tier subnet) before (λ area. refl) before_is; kept = before_is.kept }

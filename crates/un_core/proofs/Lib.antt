@@ -1,10 +1,12 @@
 pub mod Asked
 pub mod SameReply
 pub mod Traces
+pub mod Updated
 pub mod NextIds
 pub mod LookUps
 pub mod Rebuilding
 pub mod Numbers
+pub mod Stored
 pub mod CoverKept
 pub mod Making
 pub mod Opening
@@ -19,6 +21,7 @@ pub mod Pointed
 pub mod Rebuilt
 pub mod Applying
 pub mod Accepted
+pub mod Marking
 pub mod Clearing
 pub mod HistoryAnswers
 pub mod Named

@@ -17,6 +17,7 @@ use Rattle.un_defs.specs.Dirtied.{dirtied}
 use Rattle.un_defs.specs.Change.{Next, after}
 use Rattle.un_defs.specs.Laws.{AreNew, MayBeMade}
 use Rattle.un_dirty.specs.Areas.{DirtyList, added}
+use Rattle.un_ask.specs.declared.stored.StoredSubnet.{StoredSubnet}
 use Rattle.un_facts.specs.declared.ids.NextIds.{NextIds}
 use Rattle.un_facts.specs.Known.{Known, next_at, edited}
 use Rattle.un_core.specs.State.{State}
@@ -61,45 +62,45 @@ association_grows ids _ = omega arith
 
 -- ---- the state
 
-module _ (K : Known) (kept : List (Point × Star)) (dirty : DirtyList) (version : ℕ) (ids : NextIds) (moment : ℕ) (e : Edit) where
+module _ (K : Known) (kept : List (Point × Star)) (dirty : DirtyList) (stored : List StoredSubnet) (version : ℕ) (ids : NextIds) (moment : ℕ) (e : Edit) where
   abbrev s : State
-  s = held K kept dirty version ids
+  s = held K kept dirty stored version ids
 
   -- the ids that come next are new at each moment
   pub new : IsState s → AreNew (next_at ids moment) K.features
   new is = same_ids (next_of s) (next_at ids moment) K.features refl refl is.fresh_ids
 
-  module _ (left : Known) (kept_left : List (Point × Star)) (dirty_left : DirtyList) (ids_left : NextIds)
-      (left_is : left ≡ edited K ids moment e) (kept_is : kept_left ≡ kept) (dirty_is : dirty_left ≡ added dirty (dirtied K.features e))
+  module _ (left : Known) (kept_left : List (Point × Star)) (dirty_left : DirtyList) (stored_left : List StoredSubnet) (ids_left : NextIds)
+      (left_is : left ≡ edited K ids moment e) (kept_is : kept_left ≡ kept) (dirty_is : dirty_left ≡ added dirty (dirtied K.features e)) (stored_is : stored_left ≡ stored)
       (ids_are : next_at ids_left 0 ≡ after (next_at ids 0) e) where
-    abbrev with_parts : Known → List (Point × Star) → DirtyList → Next → State
-    with_parts L stars areas next = record {
+    abbrev with_parts : Known → List (Point × Star) → DirtyList → List StoredSubnet → Next → State
+    with_parts L stars areas rows next = record {
       setup = L.setup;
       features = L.features;
       kept = stars;
       areas = areas.areas;
-      stored = [];
+      stored = rows;
       version = version;
       next_feature = next.feature;
       next_association = next.association;
       next_area = areas.next;
     }
 
-    pub state_is : held left kept_left dirty_left version ids_left ≡ made_at moment s e
+    pub state_is : held left kept_left dirty_left stored_left version ids_left ≡ made_at moment s e
     state_is =
         let next : next_at ids_left moment ≡ after (next_at ids moment) e = ap (λ (n : Next). record n { moment = moment }) ids_are ∙ after_moment ids moment e in
-        λ i. with_parts (left_is i) (kept_is i) (dirty_is i) (next i)
+        λ i. with_parts (left_is i) (kept_is i) (dirty_is i) (stored_is i) (next i)
 
-    pub is_state : IsState s → MayBeMade (setting s) (next_with s moment) s.features e → IsState (held left kept_left dirty_left version ids_left)
+    pub is_state : IsState s → MayBeMade (setting s) (next_with s moment) s.features e → IsState (held left kept_left dirty_left stored_left version ids_left)
     is_state is may = subst IsState (sym state_is) (made_state s is moment e may)
 
-    pub features_grow : FeaturesGrow s (held left kept_left dirty_left version ids_left)
+    pub features_grow : FeaturesGrow s (held left kept_left dirty_left stored_left version ids_left)
     features_grow = let is = ap (λ (n : Next). n.feature) ids_are in let grows = feature_grows ids e in omega (arith, is, grows)
 
-    pub associations_grow : AssociationsGrow s (held left kept_left dirty_left version ids_left)
+    pub associations_grow : AssociationsGrow s (held left kept_left dirty_left stored_left version ids_left)
     associations_grow = let is = ap (λ (n : Next). n.association) ids_are in let grows = association_grows ids e in omega (arith, is, grows)
 
-    areas_grow : length dirty_left.areas ≤ 65536 → AreasGrow s (held left kept_left dirty_left version ids_left)
+    areas_grow : length dirty_left.areas ≤ 65536 → AreasGrow s (held left kept_left dirty_left stored_left version ids_left)
     areas_grow few = record {
       given =
           let rects = dirtied K.features e in
@@ -111,8 +112,8 @@ module _ (K : Known) (kept : List (Point × Star)) (dirty : DirtyList) (version 
       few = few;
     }
 
-    pub areas_grow_of : (t : State) → s ≡ t → length dirty_left.areas ≤ 65536 → AreasGrow t (held left kept_left dirty_left version ids_left)
-    areas_grow_of t same few = subst (λ (t : State). AreasGrow t (held left kept_left dirty_left version ids_left)) same (areas_grow few)
+    pub areas_grow_of : (t : State) → s ≡ t → length dirty_left.areas ≤ 65536 → AreasGrow t (held left kept_left dirty_left stored_left version ids_left)
+    areas_grow_of t same few = subst (λ (t : State). AreasGrow t (held left kept_left dirty_left stored_left version ids_left)) same (areas_grow few)
 
 -- ---- refusals
 

@@ -31,6 +31,7 @@ opening_state S = record {
   nonempty = λ i d l. absurd (omega arith);
   cover = λ p _. refl;
   paths = λ n t stands path. absurd (among_from_contains [] t stands);
+  stored = λ i d l. absurd (omega arith);
 }
 
 pub all_states : (S : Setup) (history : List Command) → MayAllHappen S history → IsState (after_all S history)

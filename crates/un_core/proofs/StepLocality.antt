@@ -37,4 +37,5 @@ steps_are_local s (command.Batch es) is may p clean =
     sym (settled_star (made_by_all s es).setup.schema (made_by_all s es).features (s.version + 1) (touched_by_all s es) (made_all_state s es is may).sound p)
     ∙ batch_is_local s es is may p clean
 steps_are_local s (command.Validate extent) is may p clean = refl
-steps_are_local s _ is may p clean = absurd may
+steps_are_local s (command.Update tier subnet) is may p clean = refl
+steps_are_local s (command.Rule rule) is may p clean = absurd may

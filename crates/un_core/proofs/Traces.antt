@@ -78,7 +78,7 @@ no_dirt G nodes none n h = go (is_dirty G n.at) refl
 
 -- ---- what is kept
 
-kept_reach : (s : State) (ask : TypedAsk) → IsReach (leads (kept_ground s) ask.barriers (mode_of ask.kind)) ask.starts (reached_from (kept_survey s) ask)
+pub kept_reach : (s : State) (ask : TypedAsk) → IsReach (leads (kept_ground s) ask.barriers (mode_of ask.kind)) ask.starts (reached_from (kept_survey s) ask)
 kept_reach s ask = reached_reaches (kept_survey s) (kept_points s.kept) ask.barriers (mode_of ask.kind) ask.starts
 
 module _ (s : State) (ask : TypedAsk) where
@@ -91,7 +91,7 @@ module _ (s : State) (ask : TypedAsk) where
   abbrev nodes : List Node
   nodes = reached_from (kept_survey s) ask
 
-  same_entry : IsState s → dirt K nodes ≡ None → (n : Node) → Among nodes n → entry K n ≡ entry H n
+  pub same_entry : IsState s → dirt K nodes ≡ None → (n : Node) → Among nodes n → entry K n ≡ entry H n
   same_entry is none n h = ap (λ star. find (λ s. same_port s.port n.port) star.spots) (is.cover n.at (no_dirt K nodes none n h))
 
   dirt_given : (G : Ground) (o : Option Dirt) → IsTrue ask.barriers.consistent → dirt G nodes ≡ o → trace_reply G ask nodes ≡ reply_given_dirt o G ask nodes

@@ -1,18 +1,20 @@
 -- What a query is answered.
 pub use Rattle.un_core.specs.Refusals.{refused}
-use Rattle.std.specs.Prelude.{◌≡◌, Contains, ℕ, length, nat_lt, Bool, true, false, List, [], ◌∷◌, map, Option, None, Some, if◌then◌else◌}
+pub use Rattle.un_core.specs.Walked.{kept_survey, fresh_survey}
+use Rattle.std.specs.Prelude.{◌≡◌, Contains, ℕ, length, nat_lt, Bool, true, false, List, [], Option, if◌then◌else◌}
 use Rattle.std.specs.Option.{option_map_or}
 use Rattle.un_geom.specs.Rectangle.{Rectangle}
 use Rattle.un_schema.specs.Catalog.{Catalog}
-use Rattle.un_schema.specs.declared.place.Place.TheVariants as place
 use Rattle.un_defs.specs.declared.port.Node.{Node}
 use Rattle.un_defs.specs.Ground.{Ground}
 use Rattle.un_defs.specs.declared.refusal.Refusal.{Refusal}
 use Rattle.un_defs.specs.declared.refusal.Refusal.TheVariants as refusal
 use Rattle.un_defs.specs.Features.{Features, row}
 use Rattle.un_defs.specs.Ports.{nodes}
-use Rattle.un_defs.specs.Star.{standing_points}
-use Rattle.un_defs.specs.Refusing.{first_refusal, refused_if}
+use Rattle.un_defs.specs.Refusing.{refused_if}
+use Rattle.un_tiers.specs.Lists.{tier_named}
+use Rattle.un_subnet.specs.Stored.{row_for}
+use Rattle.un_ask.specs.declared.stored.StoredSubnet.{StoredSubnet}
 use Rattle.un_ask.specs.declared.trace.TraceKind.{TraceKind}
 use Rattle.un_ask.specs.declared.trace.TraceKind.TheVariants as kind
 use Rattle.un_ask.specs.declared.trace.TraceAsk.{TraceAsk}
@@ -28,30 +30,15 @@ use Rattle.un_resolve.specs.Kinds.{is_isolation}
 use Rattle.un_resolve.specs.Valves.{isolates}
 use Rattle.un_loops.specs.Answer.{IsForLoops, loops_reply}
 use Rattle.un_isolate.specs.Answer.{IsForIsolation, isolation_reply}
-use Rattle.un_core.specs.State.{State, kept_ground, fresh_ground_of}
+use Rattle.un_core.specs.State.{State}
 use Rattle.un_core.specs.Validation.{met}
 use Rattle.un_core.specs.Walked.{Survey, reached}
 use Rattle.un_core.specs.Listed.{errors_in}
 use Rattle.un_core.specs.Feature.{feature_of_row}
 
--- ---- what is taken
-
--- what is asked is not answered
-abbrev pub untaken : Asked → Option Refusal
-untaken Version = None
-untaken (Feature id) = None
-untaken (Dirty extent) = None
-untaken (Errors extent) = None
-untaken (Subnet tier subnet) = Some (refusal.BadRequest place.Ask)
-untaken (Trace ask) = None
-
 -- the query wants a later version
-abbrev pub too_early : State → ℕ → Option Refusal
-too_early s seen = refused_if (nat_lt s.version seen) (refusal.Ahead seen s.version)
-
--- the first refusal of a query
 abbrev pub query_refusal : State → Query → Option Refusal
-query_refusal s q = first_refusal (untaken q.what ∷ too_early s q.seen ∷ [])
+query_refusal s q = refused_if (nat_lt s.version q.seen) (refusal.Ahead q.seen s.version)
 
 -- ---- what answers rest on
 
@@ -61,14 +48,6 @@ pub record Basis : Type 0 where
   pub other : Survey
   pub areas : List (ℕ × Rectangle)
   pub version : ℕ
-
--- the kept topology, as the points that have a star
-abbrev pub kept_survey : State → Survey
-kept_survey s = record { topology = kept_ground s; points = map (λ pair. pair.0) s.kept }
-
--- the topology of all features
-abbrev pub fresh_survey : State → Survey
-fresh_survey s = record { topology = fresh_ground_of s; points = standing_points s.features }
 
 -- all answers rest on the kept topology
 abbrev pub kept_basis : State → Basis
@@ -87,6 +66,18 @@ survey_for b consistent = if consistent then b.consistent else b.other
 abbrev pub feature_reply : State → ℕ → Reply
 feature_reply s id =
     option_map_or (λ r. reply.Feature (feature_of_row s.setup.schema r) s.version) (row s.features id) (refused s (refusal.NoSuchFeature id))
+
+-- a stored row, under the name of its tier
+abbrev pub row_reply : State → List ℕ → StoredSubnet → Reply
+row_reply s tier row = reply.Subnet row.controllers row.members row.status row.subnet tier row.updated s.version
+
+-- the stored row of a subnetwork of a tier, or that none is stored
+abbrev pub row_in_tier : State → List ℕ → List ℕ → ℕ → Reply
+row_in_tier s tier subnet number = option_map_or (row_reply s tier) (row_for s.stored number subnet) (refused s refusal.NoSuchSubnetwork)
+
+-- of any tier, or that there is none of the name
+abbrev pub subnet_reply : State → List ℕ → List ℕ → Reply
+subnet_reply s tier subnet = option_map_or (row_in_tier s tier subnet) (tier_named s.setup.tiers tier) (refused s refusal.NoSuchTier)
 
 -- the nodes that a trace reaches
 abbrev pub reached_from : Survey → TypedAsk → List Node
@@ -156,7 +147,7 @@ asked_on s b Version = reply.Version b.version
 asked_on s b (Feature id) = feature_reply s id
 asked_on s b (Dirty extent) = reply.Dirty (met extent b.areas) b.version
 asked_on s b (Errors extent) = reply.Errors (errors_in b.other extent) b.version
-asked_on s b (Subnet tier subnet) = refused s (refusal.BadRequest place.Ask)
+asked_on s b (Subnet tier subnet) = subnet_reply s tier subnet
 asked_on s b (Trace ask) = trace_on s b ask
 
 -- the answer of a query

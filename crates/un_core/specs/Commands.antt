@@ -23,16 +23,18 @@ use Rattle.un_ask.specs.Replies.{IsOfCommand, HasFewIds, HasFewEdits}
 use Rattle.un_core.specs.State.{State}
 use Rattle.un_core.specs.Step.{id_of, ids_of_all, dirtied_by_batch, next_state, dirtied_by}
 use Rattle.un_core.specs.Validation.{met, errors_under}
-use Rattle.un_core.specs.Refusals.{edit_refusal, batch_refusal, refused_place, numbers_refusal}
+use Rattle.un_core.specs.Updating.{updated_reply}
+use Rattle.un_core.specs.Refusals.{edit_refusal, batch_refusal, update_refusal, refused_place, numbers_refusal}
 
 -- ---- which commands are taken
 
--- the commands that may be asked for yet: edits of rows, associations and controllers, one by one or in a batch, and validations
+-- the commands that may be asked for yet: edits of rows, associations and controllers, one by one or in a batch; validations; and updates
 abbrev pub is_known : Command → Bool
 is_known (command.Edit e) = is_of_features e
 is_known (command.Batch es) = list_all is_of_features es
 is_known (command.Validate extent) = true
-is_known _ = false
+is_known (command.Update tier subnet) = true
+is_known (command.Rule rule) = false
 
 -- any other is refused as one whose word is not known
 abbrev pub unknown : Command → Option Refusal
@@ -42,6 +44,7 @@ unknown c = refused_if (not (is_known c)) (refusal.BadRequest place.Do)
 abbrev pub known_refusal : State → Command → Option Refusal
 known_refusal s (command.Edit e) = edit_refusal s e
 known_refusal s (command.Batch es) = batch_refusal s es
+known_refusal s (command.Update tier subnet) = update_refusal s tier subnet
 known_refusal s _ = numbers_refusal s
 
 -- the first refusal of a command
@@ -90,7 +93,7 @@ accepted s (command.Batch es) =
 accepted s (command.Validate extent) =
     reply.Validated (length (met extent s.areas)) (errors_under s (met extent s.areas)) (s.version + 1)
 accepted s (command.Rule rule) = reply.Ruled (0 ∷ 0 ∷ []) (length s.features.rules) (s.version + 1)
-accepted s (command.Update tier subnet) = reply.Updated None (s.version + 1)
+accepted s (command.Update tier subnet) = updated_reply s tier subnet
 
 -- the place of the edit of a batch that is refused; none where the batch is refused as a whole
 abbrev pub refused_edit : State → Command → Option ℕ

@@ -13,6 +13,7 @@ use Rattle.un_defs.specs.Ground.{Ground, ties, AreNumbered}
 use Rattle.un_defs.specs.Reach.{is_path}
 use Rattle.un_defs.specs.Laws.{IsCovered, AreNew, MayBeMade}
 use Rattle.un_index.specs.Kept.{stars_of}
+use Rattle.un_subnet.specs.Stored.{AreOrdered}
 use Rattle.un_ask.specs.declared.request.Command.{Command}
 use Rattle.un_ask.specs.declared.request.Command.TheVariants as command
 use Rattle.un_tiers.specs.declared.setup.Setup.{Setup}
@@ -25,8 +26,8 @@ use Rattle.un_core.specs.History.{after_all, dirty_after, kept_after}
 abbrev pub PathsStay : Ground → Type 0
 PathsStay G = (n : Node) (t : Tie) → Contains (ties G n) t → IsTrue (is_path t.name) → t.to.at ≡ n.at
 
--- The features are sound, the next ids and numbers are new, each point that no dirty area covers has its fresh star, and the paths of all kept
--- stars stay at their points.
+-- The features are sound, the next ids and numbers are new, each point that no dirty area covers has its fresh star, the paths of all kept
+-- stars stay at their points, and the points of the stored subnetworks are in order.
 pub record IsState (s : State) : Type 0 where
   pub sound : IsSound s.setup.schema s.features
   pub fresh_ids : AreNew (next_of s) s.features
@@ -36,19 +37,20 @@ pub record IsState (s : State) : Type 0 where
   pub nonempty : All (λ pair. pair.1 ≢ empty_star) s.kept
   pub cover : IsCovered s.setup.schema s.features (kept_ground s)
   pub paths : PathsStay (kept_ground s)
+  pub stored : AreOrdered s.stored
 
 -- each edit of a batch may be made on what the ones before it left
 abbrev pub MayAllBeMade : State → List Edit → Type 0
 MayAllBeMade s [] = ⊤
 MayAllBeMade s (e ∷ es) = MayBeMade (setting s) (next_with s 0) s.features e × MayAllBeMade (made_at 0 s e) es
 
--- An edit that is accepted may be made, and so may each of a batch; a validation is always accepted. No rule is added and no subnetwork
--- updated yet.
+-- An edit that is accepted may be made, and so may each of a batch; validations and updates ask for no more. No rule is added yet.
 abbrev pub MayHappen : State → Command → Type 0
 MayHappen s (command.Edit e) = MayBeMade (setting s) (next_of s) s.features e
 MayHappen s (command.Batch es) = MayAllBeMade s es
 MayHappen s (command.Validate extent) = ⊤
-MayHappen s _ = ⊥
+MayHappen s (command.Update tier subnet) = ⊤
+MayHappen s (command.Rule rule) = ⊥
 
 -- each command might happen after those before it
 abbrev pub MayAllHappen : Setup → List Command → Type 0

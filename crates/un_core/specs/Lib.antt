@@ -1,10 +1,11 @@
 pub mod State
+pub mod Walked
 pub mod Validation
+pub mod Updating
 pub mod Step
 pub mod History
 pub mod Cover
 pub mod Making
-pub mod Walked
 pub mod Listed
 pub mod Held
 pub mod Refusals

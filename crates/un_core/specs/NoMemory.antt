@@ -35,11 +35,19 @@ use Rattle.un_isolate.specs.Answer.{isolation_of, isolation_given_way, isolation
 use Rattle.un_resolve.specs.Kinds.{is_isolation}
 use Rattle.un_defs.specs.declared.port.Port.{Port}
 use Rattle.un_trace.specs.TraceReply.{trace_reply, reply_given_dirt, lists_controllers, controllers_reply, result_reply}
-use Rattle.un_core.specs.State.{State, known}
+use Rattle.un_core.specs.State.{State, known, fresh_ground_of}
 use Rattle.un_core.specs.Refusals.{numbers_refusal, too_many, beside_numbers, first_refused, most_areas, last_number}
 use Rattle.un_core.specs.Step.{made_at, id_of}
 use Rattle.un_core.specs.Commands.{is_known, unknown, known_refusal, command_refusal, refusal_reply, accepted, word_of, areas_of_edit, edit_reply, command_reply}
-use Rattle.un_core.specs.Answers.{Basis, answer_on, asked_on, traced_on, survey_for, reached_from, at_version, query_refusal, untaken, feature_reply, refused, too_early, is_loops, reply_over}
+use Rattle.un_core.specs.Answers.{Basis, answer_on, asked_on, traced_on, survey_for, reached_from, at_version, query_refusal, feature_reply, row_reply, row_in_tier, subnet_reply, refused, is_loops, reply_over}
+use Rattle.un_tiers.specs.Lists.{tier_named}
+use Rattle.un_defs.specs.declared.walk.Mode.TheVariants.{Any}
+use Rattle.un_ask.specs.declared.stored.StoredSubnet.{StoredSubnet}
+use Rattle.un_subnet.specs.Outcome.{refuses, outcome_refusal}
+use Rattle.un_subnet.specs.Stored.{row_for}
+use Rattle.un_subnet.proofs.NoMemory.{outcome_other}
+use Rattle.un_core.specs.Walked.{reached, fresh_survey}
+use Rattle.un_core.specs.Updating.{walk_of, outcome_in, outcome}
 use Rattle.un_core.specs.Feature.{feature_of_row}
 
 -- ---- commands
@@ -69,6 +77,16 @@ refused_other s place (e ∷ es) = go (first_refusal (beside_numbers s e)) (besi
     go None cause rest = rest
     go (Some r) cause rest = cause
 
+outcome_is_other : (s : State) (tier subnet : List ℕ) → IsOther (outcome_refusal (outcome s tier subnet))
+unfolding IsOther
+outcome_is_other s tier subnet = go (tier_named s.setup.tiers tier)
+  where
+    go : (o : Option ℕ) → IsOther (outcome_refusal (option_map_or (λ number. outcome_in s (fresh_survey s) number subnet) o (refuses refusal.NoSuchTier)))
+    go None = λ e. cc
+    go (Some number) =
+        let ask = walk_of s number subnet in
+        outcome_other (fresh_ground_of s) s.features s.stored ask.barriers.of_tier ask.disjoint (Some number) subnet (reached (fresh_survey s) ask.barriers Any ask.starts)
+
 unknown_other : (c : Command) → IsOther (unknown c)
 unknown_other c = other_where (not (is_known c)) (refusal.BadRequest place.Do) (λ e. cc)
 
@@ -77,6 +95,7 @@ unfolding AreOther
 known_other s (command.Edit e) = first_other (numbers_refusal s ∷ beside_numbers s e) (numbers_other s, beside_are_other s e)
 known_other s (command.Batch es) = first_other (numbers_refusal s ∷ option_map (λ p. p.1) (first_refused s 0 es) ∷ [])
     (numbers_other s, (refused_other s 0 es, tt))
+known_other s (command.Update tier subnet) = first_other (numbers_refusal s ∷ outcome_refusal (outcome s tier subnet) ∷ []) (numbers_other s, (outcome_is_other s tier subnet, tt))
 known_other s _ = numbers_other s
 
 command_other : (s : State) (c : Command) → IsOther (command_refusal s c)
@@ -107,14 +126,16 @@ command_is_no_memory s c = reply_where (command_refusal s c) (refusal_reply s c)
 
 -- ---- queries
 
-untaken_other : (what : Asked) → IsOther (untaken what)
-unfolding IsOther
-untaken_other asked.Version = tt
-untaken_other (asked.Feature id) = tt
-untaken_other (asked.Dirty extent) = tt
-untaken_other (asked.Errors extent) = tt
-untaken_other (asked.Subnet tier subnet) = λ e. cc
-untaken_other (asked.Trace ask) = tt
+subnet_reply_other : (s : State) (tier subnet : List ℕ) → IsNoMemory (subnet_reply s tier subnet)
+subnet_reply_other s tier subnet = named (tier_named s.setup.tiers tier)
+  where
+    found : (o : Option StoredSubnet) → IsNoMemory (option_map_or (row_reply s tier) o (refused s refusal.NoSuchSubnetwork))
+    found None = λ e. cc
+    found (Some row) = tt
+
+    named : (o : Option ℕ) → IsNoMemory (option_map_or (row_in_tier s tier subnet) o (refused s refusal.NoSuchTier))
+    named None = λ e. cc
+    named (Some number) = found (row_for s.stored number subnet)
 
 trace_other : (v : ℕ) (G : Ground) (ask : TypedAsk) (reached : List Node) → IsNoMemory (at_version v (trace_reply G ask reached))
 trace_other v G ask reached = go (if ask.barriers.consistent then dirt G reached else None)
@@ -167,10 +188,8 @@ traced_other b ask =
     reply_over_other b.version v.topology ask (reached_from v ask)
 
 pub answer_is_no_memory : (s : State) (b : Basis) (q : Query) → IsNoMemory (answer_on s b q)
-unfolding AreOther
 answer_is_no_memory s b q = reply_where (query_refusal s q) (refused s) (asked_on s b q.what)
-    (first_other (untaken q.what ∷ too_early s q.seen ∷ [])
-    (untaken_other q.what, (other_where (nat_lt s.version q.seen) (refusal.Ahead q.seen s.version) (λ e. cc), tt)))
+    (other_where (nat_lt s.version q.seen) (refusal.Ahead q.seen s.version) (λ e. cc))
     (λ r other. other) (at q.what)
   where
     at : (what : Asked) → IsNoMemory (asked_on s b what)
@@ -178,7 +197,7 @@ answer_is_no_memory s b q = reply_where (query_refusal s q) (refused s) (asked_o
     at (asked.Feature id) = feature_reply_other s id
     at (asked.Dirty extent) = tt
     at (asked.Errors extent) = tt
-    at (asked.Subnet tier subnet) = λ e. cc
+    at (asked.Subnet tier subnet) = subnet_reply_other s tier subnet
     at (asked.Trace ask) =
         reply_where (resolving_refusal s.setup s.features ask) (refused s) (traced_on b (resolved s.setup s.features ask)) (resolving_other s.setup s.features ask) (λ r other. other)
         (traced_other b (resolved s.setup s.features ask))

@@ -12,6 +12,8 @@ use Rattle.un_ask.specs.declared.reply.Reply.TheVariants.{Refused}
 use Rattle.un_defs.specs.Refusing.{first_refusal, refused_if}
 use Rattle.un_facts.specs.Refusals.{refusal_of}
 use Rattle.un_core.specs.State.{State, known}
+use Rattle.un_subnet.specs.Outcome.{outcome_refusal}
+use Rattle.un_core.specs.Updating.{outcome}
 use Rattle.un_core.specs.Step.{made_at}
 
 -- an error is the refusal that has its cause, or one of want of memory
@@ -60,6 +62,10 @@ batch_refusal s es = first_refusal (numbers_refusal s ∷ option_map (λ p. p.1)
 -- the place of the edit that is refused, which the numbers have not
 abbrev pub refused_place : State → List Edit → Option ℕ
 refused_place s es = option_map_or (λ r. None) (numbers_refusal s) (option_map (λ p. p.0) (first_refused s 0 es))
+
+-- the first refusal of an update
+abbrev pub update_refusal : State → List ℕ → List ℕ → Option Refusal
+update_refusal s tier subnet = first_refusal (numbers_refusal s ∷ outcome_refusal (outcome s tier subnet) ∷ [])
 
 -- the reply that tells of a refusal
 abbrev pub refused : State → Refusal → Reply

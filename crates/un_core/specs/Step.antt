@@ -15,6 +15,7 @@ use Rattle.un_facts.specs.declared.ids.NextIds.{NextIds}
 use Rattle.un_facts.specs.Known.{setting as names}
 use Rattle.un_core.specs.State.{State, next_ids}
 use Rattle.un_core.specs.Validation.{validated}
+use Rattle.un_core.specs.Updating.{updated}
 
 -- the names that edits look up: those of the schema, and those of the tiers
 abbrev pub setting : State → Setting
@@ -111,13 +112,13 @@ batched s es = record (made_by_all s es) {
 
 -- ---- all commands
 
--- The state after an accepted command, whose version is one more. No rule is added and no subnetwork updated yet: no such command is
--- accepted.
+-- The state after an accepted command, whose version is one more. No rule is added yet: no such command is accepted.
 abbrev pub next_state : State → Command → State
 next_state s (command.Edit e) = edited s e
 next_state s (command.Batch es) = batched s es
 next_state s (command.Validate extent) = validated s extent
-next_state s _ = record s { version = s.version + 1 }
+next_state s (command.Update tier subnet) = updated s tier subnet
+next_state s (command.Rule rule) = record s { version = s.version + 1 }
 
 -- the rectangles that it makes dirty, in order
 abbrev pub dirtied_by : State → Command → List Rectangle

@@ -1,5 +1,5 @@
 -- What validating an extent does to the kept topology and to the dirty areas.
-use Rattle.std.specs.Prelude.{◌≡◌, ◌≢◌, ◌⊎◌, ℕ, ◌+◌, All, Contains, IsTrue, if◌then◌else◌, Bool, not, List, ◌++◌, filter, length}
+use Rattle.std.specs.Prelude.{◌≡◌, ◌≢◌, ◌⊎◌, ℕ, ◌+◌, All, Contains, IsTrue, if◌then◌else◌, Bool, not, List, ◌++◌, map, filter, length}
 use Rattle.std.specs.declared.cmp.Ordering.{Ordering}
 use Rattle.std.specs.List.{list_any, sum_by}
 use Rattle.std.specs.List.Sorted.{IsStrictlySortedBy}
@@ -8,8 +8,10 @@ use Rattle.un_geom.specs.Rectangle.{Rectangle}
 use Rattle.un_geom.specs.Places.{point_cmp, same_point, covers, meets}
 use Rattle.un_defs.specs.declared.star.Star.{Star}
 use Rattle.un_defs.specs.Orders.{rising}
-use Rattle.un_defs.specs.Star.{fresh, empty_star}
+use Rattle.un_defs.specs.Star.{fresh, empty_star, standing_points}
 use Rattle.un_index.specs.Kept.{stars_of}
+use Rattle.un_subnet.specs.Changes.{Changed, changes_at}
+use Rattle.un_subnet.specs.Stored.{marked}
 use Rattle.un_core.specs.State.{State, fresh_star}
 
 -- the dirty areas that meet the extent, and those that don't
@@ -32,11 +34,21 @@ abbrev pub rebuilt : State → List (ℕ × Rectangle) → List (Point × Star)
 rebuilt s areas = rising by_point
     (filter (λ pair. not (is_under areas pair.0)) s.kept ++ filter (λ pair. is_under areas pair.0) (fresh s.setup.schema s.features))
 
--- the state after a validation: the areas that meet the extent are gone, and under them the topology is fresh
+-- the points at which a star may change
+abbrev pub changeable : State → List Point
+changeable s = map (λ pair. pair.0) s.kept ++ standing_points s.features
+
+-- the stars that change once the areas are rebuilt
+abbrev pub changes_under : State → List (ℕ × Rectangle) → Changed
+changes_under s areas = changes_at (stars_of s.kept) (stars_of (rebuilt s areas)) (changeable s)
+
+-- The state after a validation: the areas that meet the extent are gone, and under them the topology is fresh. Each stored subnetwork that a
+-- star concerns which changes is dirty.
 abbrev pub validated : State → Rectangle → State
 validated s extent = record s {
   kept = rebuilt s (met extent s.areas);
   areas = unmet extent s.areas;
+  stored = map (marked (changes_under s (met extent s.areas))) s.stored;
   version = s.version + 1;
 }
 

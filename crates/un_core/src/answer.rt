@@ -10,7 +10,7 @@ ghost use Rattle.un_loops.specs.Answer.{IsForLoops};
 ghost use Rattle.un_isolate.specs.Answer.{IsForIsolation};
 ghost use Rattle.un_core.specs.Cover.{IsState};
 ghost use Rattle.un_core.specs.Listed.{errors_in};
-ghost use Rattle.un_core.specs.Answers.{is_loops, AreClear, MayWalk, untaken, query_refusal, refused, at_version, kept_survey, kept_basis, fresh_basis, reached_from, traced, trace_on, asked_on, answer_on, answer, reached_by, most_look_ups};
+ghost use Rattle.un_core.specs.Answers.{is_loops, AreClear, MayWalk, query_refusal, refused, at_version, kept_survey, kept_basis, fresh_basis, reached_from, traced, trace_on, asked_on, answer_on, answer, reached_by, most_look_ups};
 
 use crate::kept::Kept;
 use crate::net::Net;
@@ -21,7 +21,6 @@ use un_geom::Rect;
 use un_isolate::isolate;
 use un_loops::loops;
 use un_resolve::resolve;
-use un_schema::Place;
 use un_steps::Steps;
 use un_trace::trace;
 
@@ -37,20 +36,6 @@ fn is_isolation(kind: TraceKind) -> bool
     ensures { result ≡ is_isolation kind }
 {
     matches!(kind, TraceKind::Isolation)
-}
-
-/// Why what is asked is not answered.
-fn untaken(what: &Asked) -> Option<Refusal>
-    ensures { result ≡ untaken what.now }
-{
-    match what {
-        Asked::Version
-        | Asked::Feature { .. }
-        | Asked::Dirty { .. }
-        | Asked::Errors { .. }
-        | Asked::Trace(_) => None,
-        Asked::Subnet { .. } => Some(Refusal::BadRequest { place: Place::Ask }),
-    }
 }
 
 /// What a trace answers, with the version of the state.
@@ -93,15 +78,12 @@ fn at_version(reply: Reply, version: u64) -> Reply
 }
 
 impl Net {
-    /// The first refusal of a query.
+    /// Whether a query wants a later version.
     fn query_refusal(&self, query: &Query) -> Option<Refusal>
         ensures cause { result ≡ query_refusal self.now query.now }
         ensures state { IsState self.now }
     {
         let latest = self.version;
-        if let Some(refusal) = untaken(&query.what) {
-            return Some(refusal);
-        }
         if query.seen > latest {
             return Some(Refusal::Ahead {
                 seen: query.seen,
@@ -123,7 +105,7 @@ impl Net {
     }
 
     /// The topology that is kept and the dirty areas, as traces go over them.
-    fn kept(&self) -> Kept<'_>
+    pub(crate) fn kept(&self) -> Kept<'_>
         ensures stars { result.stars.now ≡ self.now.kept }
         ensures areas { result.dirty.now.areas ≡ self.now.areas }
     {
@@ -256,7 +238,6 @@ impl Net {
         what: &Asked,
         steps: &mut Steps<L>,
     ) -> Result<Reply, AllocError>
-        requires taken { untaken what.now ≡ None }
         ensures reply { IfOk result (λ reply. reply ≡ asked_on self.now (kept_basis self.now) what.now) }
         ensures ticks { OnOk result (steps.new ≤ steps.old + length (reached_by self.now what.now)) }
     {
@@ -273,15 +254,15 @@ impl Net {
                 version,
             }),
             Asked::Trace(ask) => self.traced(alloc, ask, steps),
-            Asked::Subnet { .. } => unreachable!(),
+            Asked::Subnet { tier, subnet } => self.subnet(alloc, tier, subnet),
         }
     }
 
     /// What a query is answered. It changes nothing.
     ///
-    /// In this order it is refused: `BadRequest` where it asks for a subnetwork; `Ahead` where it wants a later version; and then the query
-    /// for a feature by `NoSuchFeature`, where none with the id is live, and a trace as `un_resolve` refuses it, by `DirtyGround` in consistent
-    /// mode where a dirty area covers a node that is reached, or by `NotIsolable` where a controller cannot be cut off. `steps` counts the
+    /// It is refused by `Ahead` where it wants a later version; and then the query for a feature by `NoSuchFeature`, where none with the id is
+    /// live; that for a subnetwork by `NoSuchTier` or `NoSuchSubnetwork`, where none is stored; and a trace as `un_resolve` refuses it, by
+    /// `DirtyGround` in consistent mode where a dirty area covers a node that is reached, or by `NotIsolable` where a controller cannot be cut off. `steps` counts the
     /// stars that are looked up. It answers an error only for want of memory.
     pub fn answer<L>(
         &self,

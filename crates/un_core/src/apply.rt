@@ -13,13 +13,14 @@ ghost use Rattle.un_machine.specs.Logs.{answer_of};
 use crate::batch::{BatchFault, Batched};
 use crate::edit::{Edited, reply_id};
 use crate::net::Net;
+use crate::update::Updated;
 use crate::validate::Validated;
 use std::alloc::{AllocError, Global};
 use un_ask::{Command, EditWord, Reply};
 use un_defs::{Edit, Ids, Refusal};
 use un_geom::Rect;
 use un_machine::{Applied, Entry, Machine};
-use un_schema::{Items, Place};
+use un_schema::{Items, Name, Place};
 
 // The number of the first of so many areas, and how many they are.
 fn first_and_count(first: u64, count: u64) -> [u64; 2]
@@ -86,8 +87,8 @@ fn is_known(command: &Command) -> bool
     match command {
         Command::Edit(edit) => is_of_features(edit),
         Command::Batch(edits) => are_of_features(edits.as_slice()),
-        Command::Validate { .. } => true,
-        Command::Rule { .. } | Command::Update { .. } => false,
+        Command::Validate { .. } | Command::Update { .. } => true,
+        Command::Rule { .. } => false,
     }
 }
 
@@ -192,6 +193,26 @@ impl Net {
         }
     }
 
+    // An update of a subnetwork.
+    fn apply_update(
+        &self,
+        alloc: Global,
+        tier: &Name,
+        subnet: &Name,
+    ) -> Result<Applied<Net>, AllocError>
+        ensures { IfOk result (λ a. answer_of a ≡ step self.now (command.Update tier.now subnet.now)) }
+    {
+        match self.update(alloc, tier, subnet) {
+            Ok(Updated { net, reply }) => Ok(Applied::Done {
+                next: net,
+                reply,
+                mark: Items::new(Vec::new(alloc)),
+            }),
+            Err(Refusal::Memory) => Err(AllocError),
+            Err(refusal) => Ok(refused(self.version, None, refusal)),
+        }
+    }
+
     // A command that is known.
     fn apply_known(&self, alloc: Global, command: &Command) -> Result<Applied<Net>, AllocError>
         requires known { is_known command.now ≡ true }
@@ -201,7 +222,8 @@ impl Net {
             Command::Edit(edit) => self.apply_edit(alloc, edit),
             Command::Batch(edits) => self.apply_batch(alloc, edits.as_slice()),
             Command::Validate { extent } => self.apply_validate(alloc, *extent),
-            Command::Rule { .. } | Command::Update { .. } => unreachable!(),
+            Command::Update { tier, subnet } => self.apply_update(alloc, tier, subnet),
+            Command::Rule { .. } => unreachable!(),
         }
     }
 

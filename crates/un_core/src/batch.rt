@@ -97,6 +97,7 @@ impl Net {
             facts: self.facts.share()?,
             kept: self.kept.share()?,
             dirty: self.dirty.share()?,
+            stored: self.stored.share()?,
             version: self.version,
             ids: self.ids,
         })

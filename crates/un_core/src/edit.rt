@@ -115,6 +115,7 @@ impl Net {
             facts,
             kept: self.kept.share()?,
             dirty,
+            stored: self.stored.share()?,
             version: self.version,
             ids: self.ids.after(edit),
         };

@@ -11,6 +11,7 @@ use un_dirty::Dirty;
 use un_facts::{Facts, NextIds};
 use un_index::Index;
 use un_schema::Schema;
+use un_subnet::StoredRows;
 use un_tiers::Tiers;
 
 /// From here on a version, an id or an area's number is none.
@@ -22,6 +23,7 @@ pub struct Net {
     pub(crate) facts: Facts,
     pub(crate) kept: Index,
     pub(crate) dirty: Dirty,
+    pub(crate) stored: StoredRows,
     pub(crate) version: u64,
     pub(crate) ids: NextIds,
 }
@@ -37,9 +39,9 @@ impl Model for Net {
 
     ghost coded = { Prim.hlevel (codes, setup_row.the_row.coded) };
 
-    ghost view = { λ n. held n.facts n.kept n.dirty n.version n.ids };
+    ghost view = { λ n. held n.facts n.kept n.dirty n.stored n.version n.ids };
 
-    ghost invariant = { λ n. IsState (held n.facts n.kept n.dirty n.version n.ids) };
+    ghost invariant = { λ n. IsState (held n.facts n.kept n.dirty n.stored n.version n.ids) };
 }
 
 impl Net {
@@ -51,6 +53,7 @@ impl Net {
             facts: Facts::open(alloc, schema, tiers)?,
             kept: Index::new(alloc),
             dirty: Dirty::new(alloc),
+            stored: StoredRows::new(alloc)?,
             version: 0,
             ids: NextIds {
                 feature: 1,

@@ -1,13 +1,17 @@
 //! Validations.
-ghost use Rattle.std.specs.Prelude.{◌≡◌, ◌+◌, ◌≤◌, length, Some, None, IfOk, OnOk, IfErr};
+ghost use Rattle.std.specs.Prelude.{◌≡◌, ◌+◌, ◌≤◌, map, length, Some, None, IfOk, OnOk, IfErr};
 ghost use Rattle.std.specs.List.{sum_by};
 ghost use Rattle.un_defs.specs.declared.refusal.Refusal.TheVariants.{Memory};
 ghost use Rattle.std.specs.Arc.{arc_value};
 ghost use Rattle.un_defs.specs.Star.{star};
+ghost use Rattle.un_index.specs.Kept.{stars_of};
+ghost use Rattle.un_subnet.specs.Changes.{changes_at};
+ghost use Rattle.un_subnet.specs.Stored.{marked};
 ghost use Rattle.un_core.specs.State.{fresh_star};
 ghost use Rattle.un_core.specs.Validation.{validated, met, errors_under, AreRebuilt, IsKept};
 ghost use Rattle.un_core.specs.Refusals.{Refuses, numbers_refusal};
 
+use crate::kept::Kept;
 use crate::net::Net;
 use std::alloc::{AllocError, Global};
 use std::sync::Arc;
@@ -16,6 +20,7 @@ use un_facts::Facts;
 use un_geom::{Point, Rect};
 use un_index::Index;
 use un_star::build;
+use un_subnet::{StoredRows, star_changes};
 
 /// A network once an extent was validated, with how many areas were cleared and how many errors stand under them.
 #[derive(Drop)]
@@ -71,7 +76,31 @@ impl Net {
         Ok(Rebuilt { kept, errors })
     }
 
-    /// The network once the topology is fresh under each dirty area that meets the extent, and these areas are cleared.
+    // The stored subnetworks once this is kept, where the two topologies have the same stars at all other points. Where none is stored, no
+    // star is looked at.
+    fn marked(
+        &self,
+        alloc: Global,
+        kept: &Index,
+        points: &[Point],
+    ) -> Result<StoredRows, AllocError>
+        ensures { IfOk result (λ rows. rows
+            ≡ map (marked (changes_at (stars_of self.now.kept) (stars_of kept.now) points.now)) self.now.stored) }
+    {
+        if self.stored.len() == 0 {
+            return self.stored.share();
+        }
+        let before = self.kept();
+        let after = Kept {
+            stars: kept,
+            dirty: &self.dirty,
+        };
+        let changes = star_changes(alloc, &before, &after, points)?;
+        self.stored.marked(alloc, &changes)
+    }
+
+    /// The network once the topology is fresh under each dirty area that meets the extent, and these areas are cleared. Each stored
+    /// subnetwork that a star concerns which changes is dirty.
     ///
     /// It is refused where the numbers are used up.
     pub(crate) fn validate(&self, alloc: Global, extent: Rect) -> Result<Validated, Refusal>
@@ -85,11 +114,13 @@ impl Net {
         let areas = self.dirty.meeting(alloc, extent)?;
         let points = self.points_under(alloc, &areas)?;
         let rebuilt = self.rebuilt(alloc, &points)?;
+        let stored = self.marked(alloc, &rebuilt.kept, &points)?;
         Ok(Validated {
             net: Net {
                 facts: self.facts.share()?,
                 kept: rebuilt.kept,
                 dirty: self.dirty.clear_meeting(alloc, extent)?,
+                stored,
                 version: self.version + 1,
                 ids: self.ids,
             },

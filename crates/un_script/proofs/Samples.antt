@@ -1,8 +1,9 @@
 -- The histories of some commands, and replies by them.
-use Rattle.std.proofs.Common.{◌≡◌, ℕ, List, [], ◌∷◌, Ok, None, refl}
+use Rattle.std.proofs.Common.{◌≡◌, [], ◌∷◌, Ok, None, refl}
 use Rattle.un_geom.specs.Rectangle.{Rectangle}
 use Rattle.un_schema.specs.declared.place.Place.TheVariants as place
 use Rattle.un_defs.specs.declared.refusal.Refusal.TheVariants as refusal
+use Rattle.un_ask.specs.declared.rule.NamedRule.{NamedRule}
 use Rattle.un_ask.specs.declared.request.Command.TheVariants as command
 use Rattle.un_ask.specs.declared.request.Request.TheVariants.{Command}
 use Rattle.un_ask.specs.declared.reply.Reply.TheVariants as reply
@@ -19,10 +20,9 @@ two_validations : (S : Setup) (first second : Rectangle)
 two_validations S first second = refl
 
 -- a command that is refused leaves the history as it was
-update_is_none : (S : Setup) (tier subnet : List ℕ)
-    → history_behind_line (opening S) (Ok (Command (command.Update tier subnet))) ≡ opening S
-update_is_none S tier subnet = refl
+rule_is_none : (S : Setup) (rule : NamedRule) → history_behind_line (opening S) (Ok (Command (command.Rule rule))) ≡ opening S
+rule_is_none S rule = refl
 
-update_refused : (S : Setup) (tier subnet : List ℕ)
-    → reply_after_line (opening S) (Ok (Command (command.Update tier subnet))) ≡ reply.Refused (refusal.BadRequest place.Do) None 0
-update_refused S tier subnet = refl
+rule_refused : (S : Setup) (rule : NamedRule)
+    → reply_after_line (opening S) (Ok (Command (command.Rule rule))) ≡ reply.Refused (refusal.BadRequest place.Do) None 0
+rule_refused S rule = refl

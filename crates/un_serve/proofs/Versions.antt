@@ -20,7 +20,9 @@ use Rattle.un_ask.specs.declared.query.Asked.{Asked as Question}
 use Rattle.un_ask.specs.declared.query.Asked.TheVariants as question
 use Rattle.un_ask.specs.declared.reply.Reply.{Reply}
 use Rattle.un_ask.specs.declared.reply.Reply.TheVariants as reply
+use Rattle.un_ask.specs.declared.stored.StoredSubnet.{StoredSubnet}
 use Rattle.un_ask.specs.declared.typed.TypedAsk.{TypedAsk}
+use Rattle.un_tiers.specs.Lists.{tier_named}
 use Rattle.un_resolve.specs.Resolved.{resolved, resolving_refusal}
 use Rattle.un_trace.specs.TraceReply.{trace_reply, reply_given_dirt, lists_controllers, controllers_reply, result_reply}
 use Rattle.un_loops.specs.Answer.{loops_reply, loops_given_dirt}
@@ -33,7 +35,7 @@ use Rattle.un_core.specs.Feature.{feature_of_row}
 use Rattle.un_core.specs.Commands.{Stepped, step, command_refusal, refusal_reply, accepted, word_of, areas_of_edit}
 use Rattle.un_core.specs.Step.{id_of, next_state, dirtied_by}
 use Rattle.un_core.specs.Refusals.{refused}
-use Rattle.un_core.specs.Answers.{kept_basis, answer, asked_on, query_refusal, feature_reply, traced_on, at_version, is_loops, survey_for, reached_from}
+use Rattle.un_core.specs.Answers.{kept_basis, answer, asked_on, query_refusal, feature_reply, row_reply, row_in_tier, subnet_reply, traced_on, at_version, is_loops, survey_for, reached_from}
 
 -- ---- commands
 
@@ -109,12 +111,23 @@ feature_version s id = go (row s.features id)
     go None = refl
     go (Some r) = refl
 
+subnet_version : (s : State) (tier subnet : List ℕ) → version_of (subnet_reply s tier subnet) ≡ s.version
+subnet_version s tier subnet = named (tier_named s.setup.tiers tier)
+  where
+    found : (o : Option StoredSubnet) → version_of (option_map_or (row_reply s tier) o (refused s refusal.NoSuchSubnetwork)) ≡ s.version
+    found None = refl
+    found (Some row) = refl
+
+    named : (o : Option ℕ) → version_of (option_map_or (row_in_tier s tier subnet) o (refused s refusal.NoSuchTier)) ≡ s.version
+    named None = refl
+    named (Some number) = found _
+
 asked_version : (s : State) (what : Question) → version_of (asked_on s (kept_basis s) what) ≡ s.version
 asked_version s question.Version = refl
 asked_version s (question.Feature id) = feature_version s id
 asked_version s (question.Dirty extent) = refl
 asked_version s (question.Errors extent) = refl
-asked_version s (question.Subnet tier subnet) = refl
+asked_version s (question.Subnet tier subnet) = subnet_version s tier subnet
 asked_version s (question.Trace ask) =
     let typed = resolved s.setup s.features ask in
     let over = survey_for (kept_basis s) typed.barriers.consistent in

@@ -15,9 +15,9 @@ invariant_of-net c =
     let es = c.args.edits.now in
     let n = c.net.inside in
     let moment = c.self.inside.version + 1 in
-    let state : held c.in_ok-net-inside.field-0 n.kept n.dirty moment n.ids ≡ batched s es =
-    ap (λ K. held K n.kept n.dirty moment n.ids) c.in_ok-net-inside.ensures
-    ∙ batched_is s es n.facts n.kept n.dirty n.version moment n.ids c.deref.result.now
+    let state : held c.in_ok-net-inside.field-0 n.kept n.dirty n.stored moment n.ids ≡ batched s es =
+    ap (λ K. held K n.kept n.dirty n.stored moment n.ids) c.in_ok-net-inside.ensures
+    ∙ batched_is s es n.facts n.kept n.dirty n.stored n.version moment n.ids c.deref.result.now
     (c.net.view_is ∙ c.in_ok-net.ensures.state) (c.deref.ensures.value ∙ c.in_ok-net.ensures.touched) (ap (λ (t : State). t.version + 1) c.self.view_is) in
     subst IsState (sym state) (cover_is_kept s (command.Batch es) (subst IsState c.self.view_is c.self.invariant) c.in_ok-net.ensures.may)
 
@@ -27,8 +27,8 @@ returns-clause-state c =
     let es = c.args.edits.now in
     let n = c.net.inside in
     let moment = c.self.inside.version + 1 in
-    ap (λ K. held K n.kept n.dirty moment n.ids) c.in_ok-net-inside.ensures
-    ∙ batched_is s es n.facts n.kept n.dirty n.version moment n.ids c.deref.result.now
+    ap (λ K. held K n.kept n.dirty n.stored moment n.ids) c.in_ok-net-inside.ensures
+    ∙ batched_is s es n.facts n.kept n.dirty n.stored n.version moment n.ids c.deref.result.now
     (c.net.view_is ∙ c.in_ok-net.ensures.state) (c.deref.ensures.value ∙ c.in_ok-net.ensures.touched) (ap (λ (t : State). t.version + 1) c.self.view_is)
 
 pub returns-in_err-net-inside-clause-bad : goal.returns-in_err-net-inside-clause-bad
