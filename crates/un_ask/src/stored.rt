@@ -7,7 +7,7 @@ use un_schema::Name;
 #[derive(Clone, Copy, Debug, PartialEq, Eq, PartialOrd, Ord, Hash)]
 pub enum Status {
     Clean,
-    /// A validation changed the topology at one of its points or at one of its controllers.
+    /// A validation changed the topology at one of its points, or at another where the subnetwork has a controller.
     Dirty,
 }
 
