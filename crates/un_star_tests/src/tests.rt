@@ -1,13 +1,11 @@
 //! Stars of small networks. What is wanted is worked out by hand from the rules.
+use crate::listed::Listed;
+use crate::plan::{NotSound, Pair, Plan};
 use crate::schemas::{joining, water};
-use crate::{Listed, NotSound, Pair, Plan};
 use std::alloc::Global;
-use std::test::Fail;
-use un_defs::{
-    AssocKind, Controller, ErrorKind, Flow, LinkName, Node, Port, Rows, Spot, Star, Tie, TopoError,
-};
+use un_defs::{AssocKind, Controller, ErrorKind, Flow, LinkName, Node, Port, Star, Tie, TopoError};
 use un_geom::Point;
-use un_schema::Name;
+use un_schema::{Name, Schema};
 use un_star::build;
 
 const ORIGIN: Point = Point { x: 0, y: 0, z: 0 };
@@ -46,46 +44,72 @@ fn east(x: i32) -> Point {
     Point { x, y: 0, z: 0 }
 }
 
+fn network(
+    alloc: Global,
+    schema: Option<Schema>,
+    plans: &[Plan],
+    pairs: &[Pair],
+    controller: Option<Controller>,
+) -> Option<Listed> {
+    Listed::new(alloc, schema?, plans, pairs, controller).ok()
+}
+
 // The star at a point of a network of water features without associations.
-fn star_of(alloc: Global, plans: &[Plan], at: Point) -> Result<Star, Fail> {
-    let network = Listed::new(alloc, water(alloc)?, plans, &[], None)?;
-    Ok(build(alloc, &network, at)?)
+fn star_of(alloc: Global, plans: &[Plan], at: Point) -> Option<Star> {
+    let network = network(alloc, water(alloc), plans, &[], None)?;
+    build(alloc, &network, at).ok()
 }
 
-fn paired(alloc: Global, plans: &[Plan], pair: Pair) -> Result<Listed, Fail> {
-    Ok(Listed::new(alloc, water(alloc)?, plans, &[pair], None)?)
+// The star at a point of a network of water features with one association.
+fn paired_star(alloc: Global, plans: &[Plan], pair: Pair, at: Point) -> Option<Star> {
+    let network = network(alloc, water(alloc), plans, &[pair], None)?;
+    build(alloc, &network, at).ok()
 }
 
-fn spot(star: &Star, feature: u64, number: u8) -> Result<&Spot, Fail> {
-    Ok(
-        star.spots
-            .as_slice()
-            .iter()
-            .find(|spot| spot.port == Port { feature, number })
-            .ok_or("no such entry")?,
-    )
+fn has_errors(star: &Star, want: &[TopoError]) -> bool {
+    star.errors.as_slice() == want
 }
 
-// The names of the links of a port.
-fn names(alloc: Global, star: &Star, feature: u64, number: u8) -> Result<Vec<LinkName>, Fail> {
-    let spot = spot(star, feature, number)?;
-    Ok(
-        spot.ties
-            .as_slice()
-            .iter()
-            .map(|tie| tie.name)
-            .collect(alloc)?,
-    )
+// Whether exactly these ports stand at the point of the star.
+fn has_ports(star: &Star, want: &[Port]) -> bool {
+    let spots = star.spots.as_slice();
+    if spots.len() != want.len() {
+        return false;
+    }
+    for (spot, port) in spots.iter().zip(want) {
+        if spot.port != *port {
+            return false;
+        }
+    }
+    true
 }
 
-fn ports(alloc: Global, star: &Star) -> Result<Vec<Port>, Fail> {
-    Ok(
-        star.spots
-            .as_slice()
-            .iter()
-            .map(|spot| spot.port)
-            .collect(alloc)?,
-    )
+fn are_named(ties: &[Tie], want: &[LinkName]) -> bool {
+    if ties.len() != want.len() {
+        return false;
+    }
+    for (tie, name) in ties.iter().zip(want) {
+        if tie.name != *name {
+            return false;
+        }
+    }
+    true
+}
+
+// Whether the port is in the star, with exactly the links of these names.
+fn has_links(star: &Star, port: Port, want: &[LinkName]) -> bool {
+    match star.entry(port) {
+        Some(spot) => are_named(spot.ties.as_slice(), want),
+        None => false,
+    }
+}
+
+// Whether the port is in the star, with exactly this link.
+fn has_only_tie(star: &Star, port: Port, want: Tie) -> bool {
+    match star.entry(port) {
+        Some(spot) => spot.ties.as_slice() == [want].as_slice(),
+        None => false,
+    }
 }
 
 fn error(kind: ErrorKind, feature: u64, number: u8, assoc: u64) -> TopoError {
@@ -114,9 +138,7 @@ fn coin(junction: u64, terminal: u8, line: u64, vertex: u8) -> LinkName {
     }
 }
 
-#[test]
-fn stacked_joints(rt: HostRuntime) -> Result<(), Fail> {
-    let alloc = rt.alloc();
+fn stacked(alloc: Global) -> Option<[bool; 4]> {
     let joint = plan("joint", &[[0, 0, 0]]);
     let main = plan("main", &[[0, 0, 0], [10, 0, 0]]);
     let star = star_of(alloc, &[joint, joint, main], ORIGIN)?;
@@ -124,77 +146,91 @@ fn stacked_joints(rt: HostRuntime) -> Result<(), Fail> {
         error(ErrorKind::Stacked, 1, 1, 0),
         error(ErrorKind::Stacked, 2, 1, 0),
     ];
-    assert_eq!(rt; star.errors.as_slice(), wrong.as_slice());
-    let standing = [port(1, 1), port(2, 1), port(3, 0)];
-    assert_eq!(rt; ports(alloc, &star)?.as_slice(), standing.as_slice());
-    assert!(rt; spot(&star, 1, 1)?.ties.as_slice().is_empty());
-    assert_eq!(rt;
-        names(alloc, &star, 3, 0)?.as_slice(),
-        [segment(3, 0)].as_slice()
-    );
-    Ok(())
+    Some([
+        has_errors(&star, &wrong),
+        has_ports(&star, &[port(1, 1), port(2, 1), port(3, 0)]),
+        has_links(&star, port(1, 1), &[]),
+        has_links(&star, port(3, 0), &[segment(3, 0)]),
+    ])
 }
 
 #[test]
-fn end_vertex_policy(rt: HostRuntime) -> Result<(), Fail> {
-    let alloc = rt.alloc();
+fn stacked_joints(rt: HostRuntime) {
+    assert_eq!(rt; stacked(rt.alloc()), Some([true; 4]));
+}
+
+fn at_vertices(alloc: Global) -> Option<[bool; 4]> {
     let joint = plan("joint", &[[5, 0, 0]]);
     let main = plan("main", &[[0, 0, 0], [5, 0, 0], [10, 0, 0]]);
     let feeder = plan("feeder", &[[5, 5, 0], [5, 0, 0], [5, -5, 0]]);
     let star = star_of(alloc, &[joint, main, feeder], east(5))?;
-    assert!(rt; star.errors.as_slice().is_empty());
-    assert_eq!(rt;
-        names(alloc, &star, 1, 1)?.as_slice(),
-        [coin(1, 1, 3, 1)].as_slice()
-    );
-    let of_main = [segment(2, 0), segment(2, 1)];
-    assert_eq!(rt; names(alloc, &star, 2, 1)?.as_slice(), of_main.as_slice());
     let of_feeder = [segment(3, 0), segment(3, 1), coin(1, 1, 3, 1)];
-    assert_eq!(rt; names(alloc, &star, 3, 1)?.as_slice(), of_feeder.as_slice());
-    Ok(())
+    Some([
+        has_errors(&star, &[]),
+        has_links(&star, port(1, 1), &[coin(1, 1, 3, 1)]),
+        has_links(&star, port(2, 1), &[segment(2, 0), segment(2, 1)]),
+        has_links(&star, port(3, 1), &of_feeder),
+    ])
 }
 
 #[test]
-fn another_height(rt: HostRuntime) -> Result<(), Fail> {
-    let alloc = rt.alloc();
+fn end_vertex_policy(rt: HostRuntime) {
+    assert_eq!(rt; at_vertices(rt.alloc()), Some([true; 4]));
+}
+
+// The star at this height of a joint 1 above the end of a main.
+fn joint_above_main(alloc: Global, z: i32) -> Option<Star> {
     let joint = plan("joint", &[[0, 0, 1]]);
     let main = plan("main", &[[0, 0, 0], [10, 0, 0]]);
-    let below = star_of(alloc, &[joint, main], ORIGIN)?;
-    let above = star_of(alloc, &[joint, main], Point { x: 0, y: 0, z: 1 })?;
-    assert_eq!(rt; ports(alloc, &below)?.as_slice(), [port(2, 0)].as_slice());
-    assert!(rt; below.errors.as_slice().is_empty());
-    assert_eq!(rt; ports(alloc, &above)?.as_slice(), [port(1, 1)].as_slice());
-    assert!(rt; spot(&above, 1, 1)?.ties.as_slice().is_empty());
-    Ok(())
+    star_of(alloc, &[joint, main], Point { x: 0, y: 0, z })
+}
+
+fn below(alloc: Global) -> Option<[bool; 2]> {
+    let star = joint_above_main(alloc, 0)?;
+    Some([has_ports(&star, &[port(2, 0)]), has_errors(&star, &[])])
+}
+
+fn above(alloc: Global) -> Option<[bool; 2]> {
+    let star = joint_above_main(alloc, 1)?;
+    Some([
+        has_ports(&star, &[port(1, 1)]),
+        has_links(&star, port(1, 1), &[]),
+    ])
 }
 
 #[test]
-fn tee_paths(rt: HostRuntime) -> Result<(), Fail> {
-    let alloc = rt.alloc();
+fn another_height(rt: HostRuntime) {
+    let found = [below(rt.alloc()), above(rt.alloc())];
+    assert_eq!(rt; found, [Some([true; 2]); 2]);
+}
+
+fn tee_star(alloc: Global) -> Option<Star> {
     let plans = [
         plan("tee", &[[0, 0, 0]]),
         from_terminal("main", &[[0, 0, 0], [10, 0, 0]], 1),
         from_terminal("main", &[[0, 0, 0], [0, 10, 0]], 2),
         from_terminal("main", &[[0, 0, 0], [-10, 0, 0]], 3),
     ];
-    let star = star_of(alloc, &plans, ORIGIN)?;
-    assert!(rt; star.errors.as_slice().is_empty());
-    for (terminal, links) in [
-        (1, [path(1, 1, 2), path(1, 1, 3), coin(1, 1, 2, 0)]),
-        (2, [path(1, 1, 2), path(1, 2, 3), coin(1, 2, 3, 0)]),
-        (3, [path(1, 1, 3), path(1, 2, 3), coin(1, 3, 4, 0)]),
-    ] {
-        assert_eq!(rt;
-            names(alloc, &star, 1, terminal)?.as_slice(),
-            links.as_slice()
-        );
-    }
-    Ok(())
+    star_of(alloc, &plans, ORIGIN)
+}
+
+fn tee(alloc: Global) -> Option<[bool; 4]> {
+    let star = tee_star(alloc)?;
+    let (first, second, third) = (path(1, 1, 2), path(1, 1, 3), path(1, 2, 3));
+    Some([
+        has_errors(&star, &[]),
+        has_links(&star, port(1, 1), &[first, second, coin(1, 1, 2, 0)]),
+        has_links(&star, port(1, 2), &[first, third, coin(1, 2, 3, 0)]),
+        has_links(&star, port(1, 3), &[second, third, coin(1, 3, 4, 0)]),
+    ])
 }
 
 #[test]
-fn terminal_errors(rt: HostRuntime) -> Result<(), Fail> {
-    let alloc = rt.alloc();
+fn tee_paths(rt: HostRuntime) {
+    assert_eq!(rt; tee(rt.alloc()), Some([true; 4]));
+}
+
+fn wrong_terminals(alloc: Global) -> Option<bool> {
     let tee = plan("tee", &[[0, 0, 0]]);
     let main = plan("main", &[[0, 0, 0], [10, 0, 0]]);
     let feeder = plan("feeder", &[[0, 5, 0], [0, 0, 0], [0, -5, 0]]);
@@ -203,132 +239,181 @@ fn terminal_errors(rt: HostRuntime) -> Result<(), Fail> {
         error(ErrorKind::BadTerminal, 2, 0, 0),
         error(ErrorKind::MidspanTerminal, 3, 1, 0),
     ];
-    assert_eq!(rt; star.errors.as_slice(), wrong.as_slice());
-    Ok(())
+    Some(has_errors(&star, &wrong))
 }
 
 #[test]
-fn unpermitted_pair(rt: HostRuntime) -> Result<(), Fail> {
-    let alloc = rt.alloc();
+fn terminal_errors(rt: HostRuntime) {
+    assert_eq!(rt; wrong_terminals(rt.alloc()), Some(true));
+}
+
+// The star at this place of a valve at 0 and a joint at 5, which are connected.
+fn valve_and_joint(alloc: Global, x: i32) -> Option<Star> {
     let plans = [plan("valve", &[[0, 0, 0]]), plan("joint", &[[5, 0, 0]])];
     let pair = Pair {
         sort: AssocKind::Connectivity,
         from: port(1, 1),
         to: port(2, 1),
     };
-    let network = paired(alloc, &plans, pair)?;
-    let star = build(alloc, &network, ORIGIN)?;
-    let wrong = [error(ErrorKind::AssociationRule, 1, 1, 1)];
-    assert_eq!(rt; star.errors.as_slice(), wrong.as_slice());
-    assert_eq!(rt;
-        names(alloc, &star, 1, 1)?.as_slice(),
-        [path(1, 1, 2)].as_slice()
-    );
-    let far = build(alloc, &network, east(5))?;
+    paired_star(alloc, &plans, pair, east(x))
+}
+
+fn at_valve(alloc: Global) -> Option<[bool; 2]> {
+    let star = valve_and_joint(alloc, 0)?;
+    Some([
+        has_errors(&star, &[error(ErrorKind::AssociationRule, 1, 1, 1)]),
+        has_links(&star, port(1, 1), &[path(1, 1, 2)]),
+    ])
+}
+
+fn at_joint(alloc: Global) -> Option<bool> {
+    let star = valve_and_joint(alloc, 5)?;
     let wrong = [error(ErrorKind::AssociationRule, 2, 1, 1)];
-    assert_eq!(rt; far.errors.as_slice(), wrong.as_slice());
-    Ok(())
+    Some(has_errors(&star, &wrong))
 }
 
 #[test]
-fn joined_joints(rt: HostRuntime) -> Result<(), Fail> {
-    let alloc = rt.alloc();
+fn unpermitted_pair(rt: HostRuntime) {
+    assert_eq!(rt; at_valve(rt.alloc()), Some([true; 2]));
+    assert_eq!(rt; at_joint(rt.alloc()), Some(true));
+}
+
+fn two_joints(alloc: Global) -> Option<[bool; 2]> {
     let plans = [plan("joint", &[[0, 0, 0]]), plan("joint", &[[100, 0, 0]])];
     let pair = Pair {
         sort: AssocKind::Connectivity,
         from: port(1, 1),
         to: port(2, 1),
     };
-    let star = build(alloc, &paired(alloc, &plans, pair)?, ORIGIN)?;
+    let star = paired_star(alloc, &plans, pair, ORIGIN)?;
     let tie = Tie {
         name: LinkName::Assoc { id: 1 },
         to: node(2, 1, east(100)),
         out: true,
         back: true,
     };
-    assert_eq!(rt; spot(&star, 1, 1)?.ties.as_slice(), [tie].as_slice());
-    assert!(rt; star.errors.as_slice().is_empty());
-    Ok(())
+    Some([has_only_tie(&star, port(1, 1), tie), has_errors(&star, &[])])
 }
 
 #[test]
-fn containment(rt: HostRuntime) -> Result<(), Fail> {
-    let alloc = rt.alloc();
+fn joined_joints(rt: HostRuntime) {
+    assert_eq!(rt; two_joints(rt.alloc()), Some([true; 2]));
+}
+
+// Whether the port is in the star, in this container and with exactly these contents.
+fn holds(star: &Star, port: Port, container: u64, contents: &[u64]) -> bool {
+    match star.entry(port) {
+        Some(spot) => spot.container == container && spot.contents.as_slice() == contents,
+        None => false,
+    }
+}
+
+fn valve_inside(alloc: Global) -> Option<[bool; 3]> {
     let plans = [plan("vault", &[[0, 0, 0]]), plan("valve", &[[0, 0, 0]])];
     let pair = Pair {
         sort: AssocKind::Containment,
         from: port(1, 0),
         to: port(2, 0),
     };
-    let star = build(alloc, &paired(alloc, &plans, pair)?, ORIGIN)?;
-    assert!(rt; star.errors.as_slice().is_empty());
-    assert_eq!(rt; spot(&star, 1, 0)?.container, 0);
-    assert_eq!(rt; spot(&star, 1, 0)?.contents.as_slice(), [2].as_slice());
-    assert_eq!(rt; spot(&star, 2, 1)?.container, 1);
-    assert!(rt; spot(&star, 2, 1)?.contents.as_slice().is_empty());
-    Ok(())
+    let star = paired_star(alloc, &plans, pair, ORIGIN)?;
+    Some([
+        has_errors(&star, &[]),
+        holds(&star, port(1, 0), 0, &[2]),
+        holds(&star, port(2, 1), 1, &[]),
+    ])
 }
 
 #[test]
-fn two_kinds_through_a_joint(rt: HostRuntime) -> Result<(), Fail> {
-    let alloc = rt.alloc();
+fn containment(rt: HostRuntime) {
+    assert_eq!(rt; valve_inside(rt.alloc()), Some([true; 3]));
+}
+
+// The star of features where a joint joins a main and a feeder alone.
+fn joining_star(alloc: Global, plans: &[Plan]) -> Option<Star> {
+    let network = network(alloc, joining(alloc), plans, &[], None)?;
+    build(alloc, &network, ORIGIN).ok()
+}
+
+fn main_alone(alloc: Global) -> Option<bool> {
+    let joint = plan("joint", &[[0, 0, 0]]);
+    let main = plan("main", &[[0, 0, 0], [10, 0, 0]]);
+    let star = joining_star(alloc, &[joint, main])?;
+    Some(has_errors(&star, &[error(ErrorKind::NoRule, 2, 0, 0)]))
+}
+
+fn main_and_feeder(alloc: Global) -> Option<[bool; 2]> {
     let joint = plan("joint", &[[0, 0, 0]]);
     let main = plan("main", &[[0, 0, 0], [10, 0, 0]]);
     let feeder = plan("feeder", &[[0, 0, 0], [0, 10, 0]]);
-    let alone = Listed::new(alloc, joining(alloc)?, &[joint, main], &[], None)?;
-    let wrong = [error(ErrorKind::NoRule, 2, 0, 0)];
-    assert_eq!(rt;
-        build(alloc, &alone, ORIGIN)?.errors.as_slice(),
-        wrong.as_slice()
-    );
-    let both = Listed::new(alloc, joining(alloc)?, &[joint, main, feeder], &[], None)?;
-    let star = build(alloc, &both, ORIGIN)?;
-    assert!(rt; star.errors.as_slice().is_empty());
+    let star = joining_star(alloc, &[joint, main, feeder])?;
     let of_joint = [coin(1, 1, 2, 0), coin(1, 1, 3, 0)];
-    assert_eq!(rt; names(alloc, &star, 1, 1)?.as_slice(), of_joint.as_slice());
-    Ok(())
+    Some([
+        has_errors(&star, &[]),
+        has_links(&star, port(1, 1), &of_joint),
+    ])
 }
 
 #[test]
-fn controller_on_a_pump(rt: HostRuntime) -> Result<(), Fail> {
-    let alloc = rt.alloc();
-    let controller = Controller {
+fn two_kinds_through_a_joint(rt: HostRuntime) {
+    assert_eq!(rt; main_alone(rt.alloc()), Some(true));
+    assert_eq!(rt; main_and_feeder(rt.alloc()), Some([true; 2]));
+}
+
+fn source(alloc: Global) -> Option<Controller> {
+    Some(Controller {
         port: port(1, 2),
         tier: 0,
-        subnet: Name::new(String::from_str(alloc, "A")?).ok_or("a name")?,
-    };
+        subnet: Name::new(String::from_str(alloc, "A").ok()?)?,
+    })
+}
+
+fn pump_star(alloc: Global) -> Option<Star> {
+    let source = source(alloc)?;
     let plans = [plan("pump", &[[0, 0, 0]])];
-    let network = Listed::new(alloc, water(alloc)?, &plans, &[], Some(controller))?;
-    let star = build(alloc, &network, ORIGIN)?;
-    let outlet = spot(&star, 1, 2)?;
-    assert!(rt; spot(&star, 1, 1)?.controller.is_none());
-    assert_eq!(rt;
-        outlet
-            .controller
-            .as_ref()
-            .map(|controller| controller.subnet.text()),
-        Some("A")
-    );
+    let network = network(alloc, water(alloc), &plans, &[], Some(source))?;
+    build(alloc, &network, ORIGIN).ok()
+}
+
+// Whether the port is in the star, and has a controller of this subnetwork or none.
+fn has_controller(star: &Star, port: Port, subnet: Option<&str>) -> bool {
+    match star.entry(port) {
+        Some(spot) => spot.controller.as_ref().map(|c| c.subnet.text()) == subnet,
+        None => false,
+    }
+}
+
+fn controlled(alloc: Global) -> Option<[bool; 3]> {
+    let star = pump_star(alloc)?;
     let tie = Tie {
         name: path(1, 1, 2),
         to: node(1, 1, ORIGIN),
         out: false,
         back: true,
     };
-    assert_eq!(rt; outlet.ties.as_slice(), [tie].as_slice());
-    Ok(())
+    Some([
+        has_controller(&star, port(1, 1), None),
+        has_controller(&star, port(1, 2), Some("A")),
+        has_only_tie(&star, port(1, 2), tie),
+    ])
 }
 
 #[test]
-fn ends_of_associations_are_rows(rt: HostRuntime) -> Result<(), Fail> {
-    let alloc = rt.alloc();
+fn controller_on_a_pump(rt: HostRuntime) {
+    assert_eq!(rt; controlled(rt.alloc()), Some([true; 3]));
+}
+
+// Why there is no network with an association to a row that it has not.
+fn missing_end(alloc: Global) -> Option<NotSound> {
     let plans = [plan("joint", &[[0, 0, 0]])];
     let pair = Pair {
         sort: AssocKind::Containment,
         from: port(1, 0),
         to: port(2, 0),
     };
-    let network = Listed::new(alloc, water(alloc)?, &plans, &[pair], None);
-    assert!(rt; network.is_err_and(|fault| fault == NotSound::Plan));
-    Ok(())
+    Listed::new(alloc, water(alloc)?, &plans, &[pair], None).err()
+}
+
+#[test]
+fn ends_of_associations_are_rows(rt: HostRuntime) {
+    assert_eq!(rt; missing_end(rt.alloc()), Some(NotSound::Plan));
 }
