@@ -126,8 +126,8 @@ class Network:
         elif word == "uncontroller":
             del self.controllers[id, edit["terminal"]]
 
-    def reached(self):
-        """The ports of the last trace's result: each feature's numbers."""
+    def told(self):
+        """The ports of the last trace's result as it was told: each feature's numbers."""
         if self.trace is None:
             return {}
         if self.trace["ok"] == "loops":
@@ -139,19 +139,28 @@ class Network:
             return {id: {terminal} for id, terminal, _ in self.trace["controllers"]}
         return {id: set(numbers) for id, numbers in self.trace["features"]}
 
+    def reached(self):
+        """The ports of the last trace's result whose features are still there."""
+        return {id: numbers for id, numbers in self.told().items() if id in self.features}
+
     def segments(self):
         """The segments of lines that the last trace's result has, each a line's id and the number of its first vertex."""
         if self.trace is not None and self.trace["ok"] == "loops":
-            return [tuple(each) for each in self.trace["segments"]]
-        return [(id, number) for id, numbers in self.reached().items() if self.features[id].kind.sort == "line"
-                for number in sorted(numbers) if number + 1 in numbers]
+            found = [tuple(each) for each in self.trace["segments"]]
+        else:
+            found = [(id, number) for id, numbers in self.told().items() for number in sorted(numbers) if number + 1 in numbers]
+        return [(id, number) for id, number in found if self.is_segment(id, number)]
+
+    def is_segment(self, id, number):
+        return id in self.features and self.features[id].kind.sort == "line" and number + 1 < len(self.features[id].points)
 
     def listed(self):
         """The features that the result lists besides: containers, contents and structures."""
-        return {id for member in ("containers", "content", "structures") for id in (self.trace or {}).get(member, [])}
+        lists = [(self.trace or {}).get(member, []) for member in ("containers", "content", "structures")]
+        return {id for each in lists for id in each if id in self.features}
 
     def borders(self):
-        return {id for id, _ in (self.trace or {}).get("borders", [])}
+        return {id for id, _ in (self.trace or {}).get("borders", []) if id in self.features}
 
     def starts(self):
         return [tuple(port) for port in (self.asked or {}).get("starts", [])]
