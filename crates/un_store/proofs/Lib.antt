@@ -4,3 +4,4 @@ pub mod Makings
 mod Samples
 pub mod Fitting
 pub mod EditsFit
+pub mod Lines

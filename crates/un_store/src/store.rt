@@ -1,14 +1,18 @@
 //! The store.
 ghost use Rattle.std.specs.Prelude.{◌≡◌, ◌<◌, ◌==◌, not, ◌++◌, ◌∷◌, [], filter, All, None, Some, IfOk, OnOk, IfErr, length};
+ghost use Rattle.std.specs.Map.{values_of};
 ghost use Rattle.std.specs.Option.{option_copied};
-ghost use Rattle.un_store.specs.Keyed.{IsRising, row_with};
+ghost use Rattle.un_geom.specs.Places.{IsPlace};
+ghost use Rattle.un_store.specs.Keyed.{IsRising, row_with, is_line_of, line_points};
 ghost use Rattle.un_store.specs.Refusals.{no_row};
 ghost use Rattle.un_store.specs.Edits.{IsReplaced};
 
 use std::alloc::{AllocError, Global};
 use std::marker::Model;
+use std::ops::Bound;
 use std::sync::Arc;
 use un_defs::{Lookup, Refusal, Row};
+use un_geom::Point;
 use un_pages::Paged;
 
 /// The live features of a network. Contracts see their rows, by rising id.
@@ -28,6 +32,30 @@ impl Model for Store {
     ghost view = { λ s. values_of s.rows };
 
     ghost invariant = { λ s. IsKeyed s.rows };
+}
+
+fn is_line_of(row: &Row, kind: u16) -> bool
+    ensures { result ≡ is_line_of kind row.now }
+{
+    row.class.is_line() && row.kind == kind
+}
+
+// The points of the lines of a kind, which are looked for among all rows.
+fn points_of_lines(
+    alloc: Global,
+    rows: &Paged<u64, Row>,
+    kind: u16,
+) -> Result<Vec<Point>, AllocError>
+    ensures points { IfOk result (λ points. points.items ≡ line_points kind (values_of rows.now)) }
+    ensures placed { IfOk result (λ points. All IsPlace points.items) }
+{
+    let mut points = Vec::new(alloc);
+    for (_, row) in rows.range(Bound::Unbounded) {
+        if is_line_of(row, kind) {
+            points.extend_from_slice(row.shape.points())?;
+        }
+    }
+    Ok(points)
 }
 
 impl Store {
@@ -51,6 +79,14 @@ impl Store {
         ensures { option_copied result ≡ row_with self.now id }
     {
         self.rows.get(&id)
+    }
+
+    /// The points of all lines of a kind, line by line in the order of their ids. All features are looked at.
+    pub fn points_of_lines(&self, alloc: Global, kind: u16) -> Result<Vec<Point>, AllocError>
+        ensures points { IfOk result (λ points. points.items ≡ line_points kind self.now) }
+        ensures placed { IfOk result (λ points. All IsPlace points.items) }
+    {
+        points_of_lines(alloc, &self.rows, kind)
     }
 
     /// An equal store, which shares all pages.
