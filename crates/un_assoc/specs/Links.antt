@@ -1,8 +1,12 @@
 -- The associations and the controllers of a network, and the network that has them.
-use Rattle.std.specs.Prelude.{List, []}
+use Rattle.std.specs.Prelude.{Bool, List, []}
 use Rattle.un_defs.specs.declared.assoc.Assoc.{Assoc}
+use Rattle.un_defs.specs.declared.assoc.AssocKind.{AssocKind}
+use Rattle.un_defs.specs.declared.assoc.AssocKind.TheVariants.{Connectivity, Containment, Attachment}
 use Rattle.un_defs.specs.declared.assoc.Controller.{Controller}
 use Rattle.un_defs.specs.Features.{Features}
+use Rattle.un_defs.specs.Links.{is_connectivity}
+use Rattle.un_defs.specs.Star.{is_containment, is_attachment}
 
 -- the live associations by rising id, and the controllers in the order of their ports
 pub record Links : Type 0 where
@@ -24,3 +28,13 @@ only_links L = record { rows = []; associations = L.associations; controllers = 
 -- none of either
 abbrev pub no_links : Links
 no_links = record { associations = []; controllers = [] }
+
+-- the test for a sort
+abbrev pub is_sort : AssocKind → AssocKind → Bool
+is_sort Connectivity = is_connectivity
+is_sort Containment = is_containment
+is_sort Attachment = is_attachment
+
+-- the association is of the sort
+abbrev pub is_of_sort : AssocKind → Assoc → Bool
+is_of_sort sort a = is_sort sort a.sort

@@ -7,7 +7,7 @@ ghost use Rattle.un_defs.specs.Features.{association, associations_of, controlle
 ghost use Rattle.un_defs.specs.Star.{is_containment, controller_at};
 ghost use Rattle.un_defs.specs.Orders.{same_port};
 ghost use Rattle.un_defs.specs.Result.{controller_cmp};
-ghost use Rattle.un_assoc.specs.Links.{no_links, only_links};
+ghost use Rattle.un_assoc.specs.Links.{no_links, only_links, is_of_sort};
 ghost use Rattle.un_assoc.specs.Containing.{container_of, contents_count, containers_above};
 ghost use Rattle.un_assoc.specs.Indexes.{IsRising};
 
@@ -17,7 +17,7 @@ use crate::controllers::Controllers;
 use crate::ends::Ends;
 use std::alloc::{AllocError, Global};
 use std::marker::Model;
-use un_defs::{Assoc, Controller, Port};
+use un_defs::{Assoc, AssocKind, Controller, Port};
 
 /// The live associations and controllers of a network. An edit gives a new one, which shares its pages with the old one.
 ///
@@ -98,6 +98,13 @@ impl Assocs {
         // For the proof alone.
         let _len = self.by_id.len();
         self.ends.first(id)
+    }
+
+    /// The associations of a sort, by rising id. All associations are looked at.
+    pub fn of_sort(&self, alloc: Global, sort: AssocKind) -> Result<Vec<Assoc>, AllocError>
+        ensures { IfOk result (λ found. found.items ≡ filter (is_of_sort sort) self.now.associations) }
+    {
+        self.by_id.of_sort(alloc, sort)
     }
 
     /// The controller on a terminal, if there is one.

@@ -1,11 +1,14 @@
 // The associations by id.
 ghost use Rattle.std.specs.Prelude.{◌≡◌, ◌<◌, ◌==◌, not, ◌++◌, ◌∷◌, [], filter, find, length, All, IfOk};
 ghost use Rattle.std.specs.Option.{option_copied};
+ghost use Rattle.std.specs.Map.{values_of};
 ghost use Rattle.un_assoc.specs.Indexes.{IsRising};
+ghost use Rattle.un_assoc.specs.Links.{is_of_sort};
 
 use std::alloc::{AllocError, Global};
 use std::marker::Model;
-use un_defs::Assoc;
+use std::ops::Bound;
+use un_defs::{Assoc, AssocKind};
 use un_pages::Paged;
 
 #[derive(Drop)]
@@ -24,6 +27,29 @@ impl Model for ById {
     ghost view = { λ m. values_of m.pairs };
 
     ghost invariant = { λ m. AreKeyed (λ a. a.id) m.pairs };
+}
+
+fn is_of_sort(sort: AssocKind, assoc: &Assoc) -> bool
+    ensures { result ≡ is_of_sort sort assoc.now }
+{
+    assoc.sort == sort
+}
+
+// Those of a sort, which are looked for among all.
+fn assocs_of_sort(
+    alloc: Global,
+    pairs: &Paged<u64, Assoc>,
+    sort: AssocKind,
+) -> Result<Vec<Assoc>, AllocError>
+    ensures { IfOk result (λ found. found.items ≡ filter (is_of_sort sort) (values_of pairs.now)) }
+{
+    let mut found = Vec::new(alloc);
+    for (_, assoc) in pairs.range(Bound::Unbounded) {
+        if is_of_sort(sort, assoc) {
+            found.push(**assoc)?;
+        }
+    }
+    Ok(found)
 }
 
 impl ById {
@@ -54,6 +80,13 @@ impl ById {
         ensures { option_copied result ≡ find (λ a. a.id == id) self.now }
     {
         self.pairs.get(&id)
+    }
+
+    // The associations of a sort, by rising id.
+    pub(crate) fn of_sort(&self, alloc: Global, sort: AssocKind) -> Result<Vec<Assoc>, AllocError>
+        ensures { IfOk result (λ found. found.items ≡ filter (is_of_sort sort) self.now) }
+    {
+        assocs_of_sort(alloc, &self.pairs, sort)
     }
 
     // The map with one association more, whose id is over all others.
