@@ -10,6 +10,7 @@ use Rattle.un_assoc.proofs.assocs.Assocs.TheSendSync.{the_send as assocs_send, t
 use Rattle.un_grid.proofs.grid.Grid.TheSendSync.{the_send as grid_send, the_sync as grid_sync}
 use Rattle.un_tiers.specs.contracts.tiers.Tiers.{the_row as tiers_row}
 use Rattle.un_tiers.specs.contracts.setup.Setup.{the_row as setup_row}
+use Rattle.un_facts.specs.contracts.frame.Frame.{the_row as frame_row}
 use Rattle.un_facts.specs.contracts.facts.Facts.{the_row}
 
 tiers_send : IsSend tiers_row
@@ -24,8 +25,14 @@ setup_send = search (tiers_send, schema_send, sendable) depth 60 fits 20000
 setup_sync : IsSync setup_row
 setup_sync = search (tiers_sync, schema_sync, sendable) depth 60 fits 20000
 
+frame_send : IsSend frame_row
+frame_send = search (setup_send, setup_sync, schema_send, crosses, sendable) depth 60 fits 20000
+
+frame_sync : IsSync frame_row
+frame_sync = search (setup_send, setup_sync, schema_sync, crosses, sendable) depth 60 fits 20000
+
 pub facts_send : IsSend the_row
-facts_send = search (setup_send, setup_sync, store_send, assocs_send, grid_send, crosses, sendable) depth 60 fits 20000
+facts_send = search (frame_send, frame_sync, store_send, assocs_send, grid_send, crosses, sendable) depth 60 fits 20000
 
 pub facts_sync : IsSync the_row
-facts_sync = search (setup_send, setup_sync, store_sync, assocs_sync, grid_sync, crosses, sendable) depth 60 fits 20000
+facts_sync = search (frame_send, frame_sync, store_sync, assocs_sync, grid_sync, crosses, sendable) depth 60 fits 20000

@@ -8,3 +8,7 @@ pub mod Placed
 pub mod Settled
 pub mod NoMemory
 pub mod Crossing
+pub mod InForce
+pub mod Joints
+pub mod RulePoints
+pub mod Enveloped

@@ -32,11 +32,11 @@ rules_aside T rows links first second (edit.Uncontroller id terminal) = refl
 rules_aside T rows links first second _ = refl
 
 -- what such an edit leaves beside rows that stay is what it leaves of the whole network
-pub link_left : LinksAloneLaw → (S : Setup) (rows : List Row) (before after : Links) (ids : NextIds) (moment : ℕ) (e : Edit) → IsLinkEdit e
+pub link_left : LinksAloneLaw → (S : Setup) (rules : List Rule) (rows : List Row) (before after : Links) (ids : NextIds) (moment : ℕ) (e : Edit) → IsLinkEdit e
     → IsMade (setting S) ids.association (only_rows rows) before e after
-    → features_of S.schema rows after ≡ changed (setting S) (next_at ids moment) (features_of S.schema rows before) e
-link_left alone S rows before after ids moment e word made =
-    let F = features_of S.schema rows before in
+    → features_of rules rows after ≡ changed (setting S) (next_at ids moment) (features_of rules rows before) e
+link_left alone S rules rows before after ids moment e word made =
+    let F = features_of rules rows before in
     let links : after ≡ links_after (setting S) ids.association before e =
     ap links_of made ∙ ap links_of (alone (setting S) (next_of ids.association) (with_links (only_rows rows) before) e word) in
     ap (with_links F) links ∙ sym (alone (setting S) (next_at ids moment) F e word)

@@ -1,15 +1,13 @@
 -- An edit for which no refusal is due may be made.
 use Rattle.std.proofs.Common.{◌≡◌, ℕ, true, false, true≢false, ◌∷◌, [], Option, None, Some, refl, sym, ◌∙◌}
-use Rattle.un_schema.specs.Catalog.{kind_at, kind_named, place_of}
 use Rattle.un_schema.specs.Sound.{IsCatalog}
 use Rattle.un_defs.specs.declared.edit.Edit.{Edit}
 use Rattle.un_defs.specs.declared.edit.Edit.TheVariants as edit
 use Rattle.un_defs.specs.declared.refusal.Refusal.{Refusal}
 use Rattle.un_defs.specs.Refusing.{first_refusal}
 use Rattle.un_defs.specs.Features.{Features}
-use Rattle.un_defs.specs.Change.{Setting, Next, changed}
+use Rattle.un_defs.specs.Change.{Setting}
 use Rattle.un_defs.specs.Laws.{AreNew, MayBeMade}
-use Rattle.un_defs.proofs.Locality.{by_option}
 use Rattle.un_defs.proofs.KeepsSound.{keeps_sound}
 use Rattle.un_store.specs.Words.{IsRowEdit}
 use Rattle.un_store.specs.Edits.{IsOfRow}
@@ -161,18 +159,9 @@ module _ (K : Known) (e : Edit) where
 
 -- ---- what an edit leaves
 
-same_rules : (T : Setting) (next : Next) (F : Features) (e : Edit) → is_of_features e ≡ true → (changed T next F e).rules ≡ F.rules
-same_rules T next F (edit.Insert kind points attrs flow ends note) word =
-    by_option (λ (G : Features). G.rules ≡ F.rules) _ F (kind_named T.catalog kind) refl (λ k _. by_option (λ (G : Features). G.rules ≡ F.rules) _ F (kind_at T.catalog k) refl (λ kd _. refl))
-same_rules T next F (edit.Kind id base kind) word = by_option (λ (G : Features). G.rules ≡ F.rules) _ F (kind_named T.catalog kind) refl (λ k _. refl)
-same_rules T next F (edit.Controller id terminal tier subnet) word = by_option (λ (G : Features). G.rules ≡ F.rules) _ F (place_of tier T.tiers) refl (λ t _. refl)
-same_rules T next F (edit.Rule rule) word = absurd (true≢false (sym word))
-same_rules T next F _ word = refl
-
 pub edited_known : (K : Known) (ids : NextIds) (moment : ℕ) (e : Edit) → IsKnown K → AreNew (next_at ids moment) K.features
-    → is_of_features e ≡ true → MayBeMade (setting K.setup) (next_at ids moment) K.features e → IsKnown (edited K ids moment e)
-edited_known K ids moment e is new word may = record {
+    → MayBeMade (setting K.setup) (next_at ids moment) K.features e → IsKnown (edited K ids moment e)
+edited_known K ids moment e is new may = record {
   sound = keeps_sound (setting K.setup) (next_at ids moment) K.features e is.sound new may;
   attributes = changed_has (setting K.setup) (next_at ids moment) K.features e is.attributes;
-  rules = same_rules (setting K.setup) (next_at ids moment) K.features e word ∙ is.rules;
 }

@@ -145,5 +145,4 @@ pub settled_known : (K : Known) (ids : List ℕ) (moment : ℕ) → IsKnown K �
 settled_known K ids moment is = record {
   sound = settled_sound K.setup.schema K.features moment ids is.sound;
   attributes = settled_has K.setup.schema K.features.rows moment ids is.attributes;
-  rules = is.rules;
 }

@@ -1,7 +1,9 @@
 pub mod Known
+pub mod Frames
 pub mod Attributes
 pub mod Standing
 pub mod Refusals
+pub mod Ruling
 pub mod Partners
 pub mod Rectangles
 pub mod Standers

@@ -64,7 +64,7 @@ impl Facts {
         ensures bad { IfErr result (λ refusal. refusal ≢ Memory
             → refusal_of self.now edit.now ≡ Some refusal) }
     {
-        let Setup { schema, .. } = &*self.setup;
+        let Setup { schema, .. } = self.frame.setup();
         // For the proof alone.
         let _rules = schema.rules();
         let rows = self.rows.edit(alloc, edit, schema, ids.feature, moment)?;
@@ -75,7 +75,7 @@ impl Facts {
         let dirtied = self.rectangles(alloc, edit, before, after)?;
         let grid = with_ports(&self.grid, alloc, edit, before, after)?;
         let facts = Facts {
-            setup: self.setup.clone()?,
+            frame: self.frame.clone()?,
             rows,
             assocs: self.assocs.share()?,
             grid,
@@ -88,11 +88,11 @@ impl Facts {
         requires { IsKnown (linked self.now assocs) }
         ensures { IfOk result (λ facts. facts ≡ linked self.now assocs) }
     {
-        let setup = self.setup.clone()?;
+        let frame = self.frame.clone()?;
         let rows = self.rows.share()?;
         let grid = self.grid.share()?;
         Ok(Facts {
-            setup,
+            frame,
             rows,
             assocs,
             grid,
@@ -117,7 +117,7 @@ impl Facts {
         ensures bad { IfErr result (λ refusal. refusal ≢ Memory
             → refusal_of self.now edit.now ≡ Some refusal) }
     {
-        let Setup { schema, tiers } = &*self.setup;
+        let Setup { schema, tiers } = self.frame.setup();
         // For the proof alone.
         let _rules = schema.rules();
         links_alone();

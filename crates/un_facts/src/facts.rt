@@ -4,10 +4,11 @@ ghost use Rattle.std.specs.Option.{option_copied};
 ghost use Rattle.un_defs.specs.Features.{row as row_with, associations_of};
 ghost use Rattle.un_defs.specs.Ports.{ports};
 ghost use Rattle.un_defs.specs.Star.{controller_at};
-ghost use Rattle.un_facts.specs.Known.{opening, settled_at};
+ghost use Rattle.un_facts.specs.Known.{opening, settled_at, in_force};
 ghost use Rattle.un_facts.specs.Places.{ArePlaces};
 ghost use Rattle.un_facts.specs.Standing.{IsKnown};
 
+use crate::frame::Frame;
 use crate::live::Live;
 use std::alloc::{AllocError, Global};
 use std::marker::Model;
@@ -20,11 +21,11 @@ use un_schema::Schema;
 use un_store::Store;
 use un_tiers::{Setup, Tiers};
 
-/// The schema and the tiers, the rows, the associations and controllers, and which ports stand where. It never changes: an edit gives new
-/// features, which share with these what stays.
+/// The schema and the tiers, the rules in force, the rows, the associations and controllers, and which ports stand where. It never changes:
+/// an edit gives new features, which share with these what stays.
 #[derive(Drop)]
 pub struct Facts {
-    pub(crate) setup: Arc<Setup>,
+    pub(crate) frame: Arc<Frame>,
     pub(crate) rows: Store,
     pub(crate) assocs: Assocs,
     pub(crate) grid: Grid,
@@ -34,7 +35,7 @@ impl Model for Facts {
     ghost use Rattle.std.specs.Arc.{arc_value};
     ghost use Rattle.std.specs.Coded.{codes};
     ghost use Rattle.un_grid.specs.Grids.{IsGridOf};
-    ghost use Rattle.un_facts.specs.Known.{Known, features_of};
+    ghost use Rattle.un_facts.specs.Known.{Known, features_of, known_of};
     ghost use Rattle.un_facts.specs.Standing.{IsKnown};
     ghost use Rattle.un_tiers.specs.contracts.setup.Setup as setup_row;
 
@@ -42,10 +43,10 @@ impl Model for Facts {
 
     ghost coded = { Prim.hlevel (codes, setup_row.the_row.coded) };
 
-    ghost view = { λ f. record { setup = arc_value f.setup; features = features_of (arc_value f.setup).schema f.rows f.assocs } };
+    ghost view = { λ f. known_of (arc_value f.frame) f.rows f.assocs };
 
-    ghost invariant = { λ f. IsKnown (record { setup = arc_value f.setup; features = features_of (arc_value f.setup).schema f.rows f.assocs })
-        × IsGridOf f.grid (features_of (arc_value f.setup).schema f.rows f.assocs) };
+    ghost invariant = { λ f. IsKnown (known_of (arc_value f.frame) f.rows f.assocs)
+        × IsGridOf f.grid (features_of (arc_value f.frame).rules f.rows f.assocs) };
 }
 
 impl Facts {
@@ -54,7 +55,7 @@ impl Facts {
         ensures { IfOk result (λ facts. facts ≡ opening (record { schema = schema; tiers = tiers })) }
     {
         Ok(Facts {
-            setup: Arc::new(alloc, Setup { schema, tiers })?,
+            frame: Arc::new(alloc, Frame::new(alloc, schema, tiers)?)?,
             rows: Store::new(alloc),
             assocs: Assocs::new(alloc),
             grid: Grid::new(alloc),
@@ -66,19 +67,19 @@ impl Facts {
         ensures { IfOk result (λ facts. facts ≡ self.now) }
     {
         Ok(Facts {
-            setup: self.setup.clone()?,
+            frame: self.frame.clone()?,
             rows: self.rows.share()?,
             assocs: self.assocs.share()?,
             grid: self.grid.share()?,
         })
     }
 
-    /// The schema and the tiers.
+    /// The schema and the tiers that the network was opened with.
     pub fn setup(&self) -> &Setup
         ensures setup { result.now ≡ self.now.setup }
         ensures known { IsKnown self.now }
     {
-        &self.setup
+        self.frame.setup()
     }
 
     /// The row with this id, if there is one.
@@ -88,11 +89,12 @@ impl Facts {
         self.rows.row(id)
     }
 
-    /// The schema, whose rules are those in force.
+    /// The schema with the rules in force.
     pub fn schema(&self) -> &Schema
-        ensures { result.now ≡ self.now.setup.schema }
+        ensures schema { result.now ≡ in_force self.now }
+        ensures known { IsKnown self.now }
     {
-        &self.setup.schema
+        self.frame.schema()
     }
 
     /// The ports that stand at a point, rising.
@@ -122,7 +124,7 @@ impl Facts {
         ensures { result.facts.now ≡ self.now }
     {
         // For the proof alone.
-        let _setup = &self.setup;
+        let _frame = &self.frame;
         Live { facts: self }
     }
 
@@ -146,7 +148,7 @@ impl Facts {
         ensures { IfOk result (λ facts. facts ≡ settled_at self.now ids.now moment) }
     {
         Ok(Facts {
-            setup: self.setup.clone()?,
+            frame: self.frame.clone()?,
             rows: self.rows.settle(alloc, ids, moment)?,
             assocs: self.assocs.share()?,
             grid: self.grid.share()?,

@@ -1,4 +1,4 @@
-//! The features of a network: rows, associations and controllers, with the ports that stand at each point.
+//! The features of a network: rows, associations and controllers, with the ports that stand at each point and the rules in force.
 //!
 //! # What is to be found
 //!
@@ -13,6 +13,9 @@
 //! ([`rectangles`]) are the envelope of the row before the edit, the one after it, and those of other rows: the partners of a row that moves
 //! or becomes of another kind, and the ends of an association.
 //!
+//! The schema and the tiers stay for the life of a network, but rules may be added. So the features hold a frame ([`frame`]): what the network
+//! was opened with, and beside it the schema with the rules in force, once a rule was added ([`rules`]). An edit of a feature shares the frame.
+//!
 //! # Why that is enough
 //!
 //! Only a row's own edits change its ports, so the grid stays that of all features. Which rows have stars that change is a law of the
@@ -21,16 +24,20 @@
 //! # What it costs
 //!
 //! Each store takes time by the logarithm of what it holds, and the old features share with the new ones all pages but those on the way to
-//! what changed. A row that moves or becomes of another kind costs a step for each of its associations.
+//! what changed. A row that moves or becomes of another kind costs a step for each of its associations. A new rule costs a step for each
+//! row, or for each association, and the list of rules is copied.
 #![tactic(auto)]
 
 pub mod edit;
+mod envelope;
 pub mod facts;
+mod frame;
 pub mod ids;
 pub mod laws;
 pub mod live;
 mod ports;
 mod rectangles;
+pub mod rules;
 mod standing;
 
 pub use edit::Made;

@@ -1,7 +1,8 @@
 //! The features as stars are built of them.
-ghost use Rattle.std.specs.Prelude.{◌≡◌};
+ghost use Rattle.std.specs.Prelude.{◌≡◌, refl};
 ghost use Rattle.std.proofs.Props.{props};
-ghost use Rattle.un_facts.specs.Standing.{IsKnown};
+ghost use Rattle.un_defs.specs.Sound.{IsSound};
+ghost use Rattle.un_facts.specs.Known.{in_force};
 
 use crate::facts::Facts;
 use std::alloc::{AllocError, Global};
@@ -13,11 +14,11 @@ use un_schema::Schema;
 #[derive(Clone, Copy)]
 pub struct Live<'a> {
     pub(crate) facts: &'a Facts,
-    ghost known: { IsKnown facts.now } by { Prim.hlevel props },
+    ghost sound: { IsSound (in_force facts.now) facts.now.features } by { Prim.hlevel props },
 }
 
 impl Rows for Live<'_> {
-    ghost catalog = { λ l. l.facts.now.setup.schema };
+    ghost catalog = { λ l. in_force l.facts.now };
 
     ghost features = { λ l. l.facts.now.features };
 
@@ -41,7 +42,7 @@ impl Rows for Live<'_> {
         self.facts.controller_at(port)
     }
 
-    ghost sound = { λ l. l.known.sound };
+    ghost sound = { λ l. l.sound };
 
-    ghost same_rules = { λ l. l.known.rules };
+    ghost same_rules = { λ l. refl };
 }

@@ -75,7 +75,8 @@ fn own(edit: &Edit, before: Option<&Row>, after: Option<&Row>) -> (Option<Rect>,
     }
 }
 
-fn add(rects: &mut Vec<Rect>, rect: Option<Rect>) -> Result<(), AllocError>
+// Adds a rectangle, if there is one.
+pub(crate) fn add(rects: &mut Vec<Rect>, rect: Option<Rect>) -> Result<(), AllocError>
     ensures { OnOk result (rects.new.items ≡ rects.old.items ++ option_to_list rect) }
 {
     if let Some(rect) = rect {

@@ -12,7 +12,8 @@ use Rattle.un_assoc.specs.Edits.{IsMade}
 use Rattle.un_facts.specs.declared.ids.NextIds.{NextIds}
 use Rattle.un_assoc.specs.Refusals.{refusal_of as link_refusal}
 use Rattle.un_tiers.specs.declared.setup.Setup.{Setup}
-use Rattle.un_facts.specs.Known.{Known, features_of, setting, next_at, edited, linked}
+use Rattle.un_facts.specs.Frames.{Framed}
+use Rattle.un_facts.specs.Known.{Known, known_of, setting, next_at, edited, linked}
 use Rattle.un_facts.specs.Standing.{IsKnown}
 use Rattle.un_facts.proofs.Edited.{link_rectangles}
 use Rattle.un_facts.proofs.Linked.{under, rules_aside, link_left}
@@ -21,56 +22,62 @@ use Rattle.un_facts.proofs.facts.Facts.edit_link.Goals as goal
 
 pub returns-clause-may : goal.returns-clause-may
 returns-clause-may c =
-    let S = arc_value c.self.inside.setup in
+    let frame = arc_value c.self.inside.frame in
+    let S = frame.setup in
+    let setup_is = c.setup.ensures ∙ ap (λ (f : Framed). f.setup) c.deref.ensures in
     let e = c.args.edit.now in
     let rows = c.self.inside.rows in
     let links = c.self.inside.assocs in
-    let K : Known = record { setup = S; features = features_of S.schema rows links } in
-    let catalog = subst (λ (C : Setup). IsCatalog C.schema) c.deref.ensures c.rules-rules.ensures.catalog in
+    let K : Known = known_of frame rows links in
+    let catalog = subst (λ (C : Setup). IsCatalog C.schema) setup_is c.rules-rules.ensures.catalog in
     let good : link_refusal (setting S) (under rows links []) e ≡ None =
-    subst (λ (C : Setup). link_refusal (setting C) (under rows links []) e ≡ None) c.deref.ensures c.in_ok-assocs.ensures.good in
-    let cause = link_refused K e c.requires.word None (rules_aside (setting S) rows links S.schema.rules [] e ∙ good) in
+    subst (λ (C : Setup). link_refusal (setting C) (under rows links []) e ≡ None) setup_is c.in_ok-assocs.ensures.good in
+    let cause = link_refused K e c.requires.word None (rules_aside (setting S) rows links frame.rules [] e ∙ good) in
     subst (λ (L : Known). MayBeMade (setting L.setup) (next_at c.args.ids c.args.moment) L.features e) c.self.view_is
     (made K c.args.ids c.args.moment catalog c.self.invariant.0.sound e (link_word e c.requires.word) cause)
 
 -- the features with the associations and controllers that the edit leaves
-left_is : LinksAloneLaw → (K : Known) (S : Setup) (rows : List Row) (before after : Links) → record { setup = S; features = features_of S.schema rows before } ≡ K
-    → (ids : NextIds) (moment : ℕ) (e : Edit) → IsLinkEdit e → IsMade (setting S) ids.association (only_rows rows) before e after → linked K after ≡ edited K ids moment e
-left_is alone K S rows before after view ids moment e word made =
+left_is : LinksAloneLaw → (K : Known) (f : Framed) (rows : List Row) (before after : Links) → known_of f rows before ≡ K
+    → (ids : NextIds) (moment : ℕ) (e : Edit) → IsLinkEdit e → IsMade (setting f.setup) ids.association (only_rows rows) before e after → linked K after ≡ edited K ids moment e
+left_is alone K f rows before after view ids moment e word made =
     ap (λ (L : Known). linked L after) (sym view)
-    ∙ ap (λ F. record { setup = S; features = F }) (link_left alone S rows before after ids moment e word made)
+    ∙ ap (λ F. record { setup = f.setup; features = F }) (link_left alone f.setup f.rules rows before after ids moment e word made)
     ∙ ap (λ (L : Known). edited L ids moment e) view
 
 pub with_assocs-requires : goal.with_assocs-requires
 with_assocs-requires c =
-    let S = arc_value c.self.inside.setup in
+    let frame = arc_value c.self.inside.frame in
+    let S = frame.setup in
+    let setup_is = c.setup.ensures ∙ ap (λ (f : Framed). f.setup) c.deref.ensures in
     let e = c.args.edit.now in
     let ids = c.args.ids in
     let rows = c.self.inside.rows in
     let links = c.self.inside.assocs in
-    let K : Known = record { setup = S; features = features_of S.schema rows links } in
+    let K : Known = known_of frame rows links in
     let new : AreNew (next_at ids c.args.moment) K.features = subst (λ (L : Known). AreNew (next_at ids c.args.moment) L.features) (sym c.self.view_is) c.requires.new in
-    let catalog = subst (λ (C : Setup). IsCatalog C.schema) c.deref.ensures c.rules-rules.ensures.catalog in
+    let catalog = subst (λ (C : Setup). IsCatalog C.schema) setup_is c.rules-rules.ensures.catalog in
     let good : link_refusal (setting S) (under rows links []) e ≡ None =
-    subst (λ (C : Setup). link_refusal (setting C) (under rows links []) e ≡ None) c.deref.ensures c.in_ok-assocs.ensures.good in
-    let cause = link_refused K e c.requires.word None (rules_aside (setting S) rows links S.schema.rules [] e ∙ good) in
+    subst (λ (C : Setup). link_refusal (setting C) (under rows links []) e ≡ None) setup_is c.in_ok-assocs.ensures.good in
+    let cause = link_refused K e c.requires.word None (rules_aside (setting S) rows links frame.rules [] e ∙ good) in
     let may = made K ids c.args.moment catalog c.self.invariant.0.sound e (link_word e c.requires.word) cause in
     let is_made : IsMade (setting S) ids.association (only_rows rows) links e c.in_ok-assocs.assocs =
-    subst (λ (C : Setup). IsMade (setting C) ids.association (only_rows rows) links e c.in_ok-assocs.assocs) c.deref.ensures c.in_ok-assocs.ensures.links in
-    subst IsKnown (sym (left_is c.links_alone.ensures.links c.args.self.now S rows links c.in_ok-assocs.assocs c.self.view_is ids c.args.moment e c.requires.word is_made))
-    (subst (λ (L : Known). IsKnown (edited L ids c.args.moment e)) c.self.view_is (edited_known K ids c.args.moment e c.self.invariant.0 new (link_word e c.requires.word) may))
+    subst (λ (C : Setup). IsMade (setting C) ids.association (only_rows rows) links e c.in_ok-assocs.assocs) setup_is c.in_ok-assocs.ensures.links in
+    subst IsKnown (sym (left_is c.links_alone.ensures.links c.args.self.now frame rows links c.in_ok-assocs.assocs c.self.view_is ids c.args.moment e c.requires.word is_made))
+    (subst (λ (L : Known). IsKnown (edited L ids c.args.moment e)) c.self.view_is (edited_known K ids c.args.moment e c.self.invariant.0 new may))
 
 pub returns-clause-features : goal.returns-clause-features
 returns-clause-features c =
-    let S = arc_value c.self.inside.setup in
+    let frame = arc_value c.self.inside.frame in
+    let S = frame.setup in
+    let setup_is = c.setup.ensures ∙ ap (λ (f : Framed). f.setup) c.deref.ensures in
     let e = c.args.edit.now in
     let ids = c.args.ids in
     let rows = c.self.inside.rows in
     let links = c.self.inside.assocs in
     let is_made : IsMade (setting S) ids.association (only_rows rows) links e c.in_ok-assocs.assocs =
-    subst (λ (C : Setup). IsMade (setting C) ids.association (only_rows rows) links e c.in_ok-assocs.assocs) c.deref.ensures c.in_ok-assocs.ensures.links in
+    subst (λ (C : Setup). IsMade (setting C) ids.association (only_rows rows) links e c.in_ok-assocs.assocs) setup_is c.in_ok-assocs.ensures.links in
     c.in_ok-facts.ensures
-    ∙ left_is c.links_alone.ensures.links c.args.self.now S rows links c.in_ok-assocs.assocs c.self.view_is ids c.args.moment e c.requires.word is_made
+    ∙ left_is c.links_alone.ensures.links c.args.self.now frame rows links c.in_ok-assocs.assocs c.self.view_is ids c.args.moment e c.requires.word is_made
 
 pub returns-clause-dirtied : goal.returns-clause-dirtied
 returns-clause-dirtied c = c.in_ok-dirtied.ensures ∙ link_rectangles c.args.self.now.features c.args.edit.now c.requires.word

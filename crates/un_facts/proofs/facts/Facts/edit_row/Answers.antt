@@ -1,4 +1,4 @@
-use Rattle.std.proofs.Common.{◌≡◌, ◌++◌, None, refl, sym, ap, ◌∙◌, subst}
+use Rattle.std.proofs.Common.{◌≡◌, ◌++◌, None, sym, ap, ◌∙◌, subst}
 use Rattle.std.specs.Arc.{arc_value}
 use Rattle.std.specs.Option.{option_copied}
 use Rattle.un_schema.specs.Sound.{IsCatalog}
@@ -10,78 +10,87 @@ use Rattle.un_grid.specs.Grids.{IsGridOf}
 use Rattle.un_grid.proofs.Inserting.{inserted}
 use Rattle.un_grid.proofs.Changing.{removed, replaced, stayed}
 use Rattle.un_tiers.specs.declared.setup.Setup.{Setup}
-use Rattle.un_facts.specs.Known.{Known, features_of, setting, next_at, edited}
+use Rattle.un_facts.specs.Frames.{Framed}
+use Rattle.un_facts.specs.Known.{Known, known_of, features_of, setting, next_at, edited}
 use Rattle.un_facts.specs.Standing.{IsKnown}
-use Rattle.un_facts.specs.Refusals.{standing_refusal, refusal_of}
+use Rattle.un_facts.specs.Refusals.{standing_refusal}
 use Rattle.un_facts.specs.Rectangles.{own_rectangles, other_rectangles}
 use Rattle.un_facts.proofs.Edited.{features_are, all_rectangles_are, grid_after}
-use Rattle.un_facts.proofs.Makeable.{made, row_word, row_good, row_bad, standing_bad, edited_known}
+use Rattle.un_facts.proofs.Makeable.{made, row_word, row_good, edited_known}
 use Rattle.un_facts.proofs.facts.Facts.edit_row.Goals as goal
 
 pub invariant_of-facts-2 : goal.invariant_of-facts-2
 invariant_of-facts-2 c =
-    let S = arc_value c.self.inside.setup in
+    let frame = arc_value c.self.inside.frame in
+    let S = frame.setup in
+    let setup_is = c.setup.ensures ∙ ap (λ (f : Framed). f.setup) c.deref.ensures in
     let e = c.args.edit.now in
     let ids = c.args.ids in
-    let K : Known = record { setup = S; features = features_of S.schema c.self.inside.rows c.self.inside.assocs } in
+    let K : Known = known_of frame c.self.inside.rows c.self.inside.assocs in
     let T = setting S in
     let N = next_at ids c.args.moment in
     let new : AreNew N K.features = subst (λ (L : Known). AreNew N L.features) (sym c.self.view_is) c.requires.new in
     let cause : row_refusal S.schema c.self.inside.rows e ≡ None =
-    subst (λ (C : Setup). row_refusal C.schema c.self.inside.rows e ≡ None) c.deref.ensures c.in_ok-rows.ensures.good in
+    subst (λ (C : Setup). row_refusal C.schema c.self.inside.rows e ≡ None) setup_is c.in_ok-rows.ensures.good in
     let stands : standing_refusal K.features e ≡ None = subst (λ (L : Known). standing_refusal L.features e ≡ None) (sym c.self.view_is) c.in_ok-check_standing.ensures.good in
-    let catalog = subst (λ (C : Setup). IsCatalog C.schema) c.deref.ensures c.rules-rules.ensures.catalog in
+    let catalog = subst (λ (C : Setup). IsCatalog C.schema) setup_is c.rules-rules.ensures.catalog in
     let may = made K ids c.args.moment catalog c.self.invariant.0.sound e (row_word e c.requires.word) (row_good K e c.requires.word cause stands) in
     let are : c.in_ok-rows.rows ≡ rows_after S.schema ids.feature c.args.moment c.self.inside.rows e =
-    subst (λ (C : Setup). c.in_ok-rows.rows ≡ rows_after C.schema ids.feature c.args.moment c.self.inside.rows e) c.deref.ensures c.in_ok-rows.ensures.rows in
+    subst (λ (C : Setup). c.in_ok-rows.rows ≡ rows_after C.schema ids.feature c.args.moment c.self.inside.rows e) setup_is c.in_ok-rows.ensures.rows in
     let left = features_are T N K.features e c.requires.word c.in_ok-rows.rows are in
     let grid = grid_after T N K.features new.feature e c.requires.word cause c.in_ok-rows.rows are c.row_of-id.result c.row_of-id.ensures _ _ c.row-before.ensures c.row-after.ensures
     inserted removed replaced stayed c.self.invariant.0.sound.rows c.self.inside.grid c.in_ok-grid.grid c.self.invariant.1 c.in_ok-grid.ensures in (
       subst IsKnown
           (ap (λ F. record { setup = S; features = F }) (sym left)
-          ∙ (λ i. record { setup = sym c.in_ok-clone.ensures.cases i; features = features_of (sym c.in_ok-clone.ensures.cases i).schema (sym c.rows.view_is i) (sym c.in_ok-share.ensures i) }))
-          (edited_known K ids c.args.moment e c.self.invariant.0 new (row_word e c.requires.word) may),
+          ∙ (λ i. known_of (sym c.in_ok-clone.ensures.cases i) (sym c.rows.view_is i) (sym c.in_ok-share.ensures i)))
+          (edited_known K ids c.args.moment e c.self.invariant.0 new may),
       subst (IsGridOf c.in_ok-grid.grid)
-          (sym left ∙ (λ i. features_of (sym c.in_ok-clone.ensures.cases i).schema (sym c.rows.view_is i) (sym c.in_ok-share.ensures i)))
+          (sym left ∙ (λ i. features_of (sym c.in_ok-clone.ensures.cases i).rules (sym c.rows.view_is i) (sym c.in_ok-share.ensures i)))
           grid,
     )
 
 pub returns-clause-features : goal.returns-clause-features
 returns-clause-features c =
-    let S = arc_value c.self.inside.setup in
+    let frame = arc_value c.self.inside.frame in
+    let S = frame.setup in
+    let setup_is = c.setup.ensures ∙ ap (λ (f : Framed). f.setup) c.deref.ensures in
     let e = c.args.edit.now in
     let ids = c.args.ids in
-    let K : Known = record { setup = S; features = features_of S.schema c.self.inside.rows c.self.inside.assocs } in
+    let K : Known = known_of frame c.self.inside.rows c.self.inside.assocs in
     let are : c.in_ok-rows.rows ≡ rows_after S.schema ids.feature c.args.moment c.self.inside.rows e =
-    subst (λ (C : Setup). c.in_ok-rows.rows ≡ rows_after C.schema ids.feature c.args.moment c.self.inside.rows e) c.deref.ensures c.in_ok-rows.ensures.rows in
-    (λ i. record { setup = c.in_ok-clone.ensures.cases i; features = features_of (c.in_ok-clone.ensures.cases i).schema (c.rows.view_is i) (c.in_ok-share.ensures i) })
+    subst (λ (C : Setup). c.in_ok-rows.rows ≡ rows_after C.schema ids.feature c.args.moment c.self.inside.rows e) setup_is c.in_ok-rows.ensures.rows in
+    (λ i. known_of (c.in_ok-clone.ensures.cases i) (c.rows.view_is i) (c.in_ok-share.ensures i))
     ∙ ap (λ F. record { setup = S; features = F }) (features_are (setting S) (next_at ids c.args.moment) K.features e c.requires.word c.in_ok-rows.rows are)
     ∙ ap (λ L. edited L ids c.args.moment e) c.self.view_is
 
 pub returns-clause-dirtied : goal.returns-clause-dirtied
 returns-clause-dirtied c =
-    let S = arc_value c.self.inside.setup in
+    let frame = arc_value c.self.inside.frame in
+    let S = frame.setup in
+    let setup_is = c.setup.ensures ∙ ap (λ (f : Framed). f.setup) c.deref.ensures in
     let e = c.args.edit.now in
     let ids = c.args.ids in
-    let K : Known = record { setup = S; features = features_of S.schema c.self.inside.rows c.self.inside.assocs } in
+    let K : Known = known_of frame c.self.inside.rows c.self.inside.assocs in
     let N = next_at ids c.args.moment in
     let new : AreNew N K.features = subst (λ (L : Known). AreNew N L.features) (sym c.self.view_is) c.requires.new in
     let cause : row_refusal S.schema c.self.inside.rows e ≡ None =
-    subst (λ (C : Setup). row_refusal C.schema c.self.inside.rows e ≡ None) c.deref.ensures c.in_ok-rows.ensures.good in
+    subst (λ (C : Setup). row_refusal C.schema c.self.inside.rows e ≡ None) setup_is c.in_ok-rows.ensures.good in
     let are : c.in_ok-rows.rows ≡ rows_after S.schema ids.feature c.args.moment c.self.inside.rows e =
-    subst (λ (C : Setup). c.in_ok-rows.rows ≡ rows_after C.schema ids.feature c.args.moment c.self.inside.rows e) c.deref.ensures c.in_ok-rows.ensures.rows in
+    subst (λ (C : Setup). c.in_ok-rows.rows ≡ rows_after C.schema ids.feature c.args.moment c.self.inside.rows e) setup_is c.in_ok-rows.ensures.rows in
     c.in_ok-dirtied.ensures
     ∙ subst (λ (L : Known). own_rectangles e (option_copied c.row-before.result) (option_copied c.row-after.result) ++ other_rectangles L.features e ≡ dirtied L.features e) c.self.view_is
     (all_rectangles_are (setting S) N K.features new.feature e c.requires.word cause c.in_ok-rows.rows are c.row_of-id.result c.row_of-id.ensures _ _ c.row-before.ensures c.row-after.ensures)
 
 pub returns-clause-may : goal.returns-clause-may
 returns-clause-may c =
-    let S = arc_value c.self.inside.setup in
+    let frame = arc_value c.self.inside.frame in
+    let S = frame.setup in
+    let setup_is = c.setup.ensures ∙ ap (λ (f : Framed). f.setup) c.deref.ensures in
     let e = c.args.edit.now in
-    let K : Known = record { setup = S; features = features_of S.schema c.self.inside.rows c.self.inside.assocs } in
+    let K : Known = known_of frame c.self.inside.rows c.self.inside.assocs in
     let cause : row_refusal S.schema c.self.inside.rows e ≡ None =
-    subst (λ (C : Setup). row_refusal C.schema c.self.inside.rows e ≡ None) c.deref.ensures c.in_ok-rows.ensures.good in
+    subst (λ (C : Setup). row_refusal C.schema c.self.inside.rows e ≡ None) setup_is c.in_ok-rows.ensures.good in
     let stands : standing_refusal K.features e ≡ None = subst (λ (L : Known). standing_refusal L.features e ≡ None) (sym c.self.view_is) c.in_ok-check_standing.ensures.good in
-    let catalog = subst (λ (C : Setup). IsCatalog C.schema) c.deref.ensures c.rules-rules.ensures.catalog in
+    let catalog = subst (λ (C : Setup). IsCatalog C.schema) setup_is c.rules-rules.ensures.catalog in
     subst (λ (L : Known). MayBeMade (setting L.setup) (next_at c.args.ids c.args.moment) L.features e) c.self.view_is
     (made K c.args.ids c.args.moment catalog c.self.invariant.0.sound e (row_word e c.requires.word) (row_good K e c.requires.word cause stands))

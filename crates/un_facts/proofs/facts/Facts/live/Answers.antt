@@ -1,6 +1,9 @@
 use Rattle.std.proofs.Common.{subst}
 use Rattle.un_facts.specs.Standing.{IsKnown}
+use Rattle.un_facts.proofs.InForce.{sound_under}
 use Rattle.un_facts.proofs.facts.Facts.live.Goals as goal
 
 pub invariant_of-result : goal.invariant_of-result
-invariant_of-result c = record { known = subst IsKnown c.self.view_is c.self.invariant.0 }
+invariant_of-result c =
+    let K = c.args.self.now in
+    record { sound = sound_under K.setup.schema K.features.rules K.features (subst IsKnown c.self.view_is c.self.invariant.0).sound }
