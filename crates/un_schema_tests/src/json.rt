@@ -1,8 +1,10 @@
 //! Texts are written with `'` in place of `"`.
 
-use std::alloc::Global;
+use std::alloc::{AllocError, Global};
 use std::test::Fail;
+use un_schema::Schema;
 use un_schema_json::{SchemaFault, read_schema};
+use un_tiers::Tiers;
 
 // A schema of format 1, member by member.
 const MEMBERS: [(&str, &str); 7] = [
@@ -22,7 +24,7 @@ const MEMBERS: [(&str, &str); 7] = [
 ];
 
 // The schema with another value for one member; without that member where there is no other value.
-fn line_with(alloc: Global, name: &str, value: &str) -> Result<String, Fail> {
+fn line_with(alloc: Global, name: &str, value: &str) -> Result<String, AllocError> {
     let mut line = String::from_str(alloc, "{")?;
     for (member, usual) in MEMBERS {
         let text = if member == name { value } else { usual };
@@ -37,7 +39,7 @@ fn line_with(alloc: Global, name: &str, value: &str) -> Result<String, Fail> {
     Ok(line)
 }
 
-fn with_double_quotes(alloc: Global, text: &str) -> Result<Vec<u8>, Fail> {
+fn with_double_quotes(alloc: Global, text: &str) -> Result<Vec<u8>, AllocError> {
     let mut bytes = Vec::new(alloc);
     for byte in text.as_bytes() {
         bytes.push(if *byte == b'\'' { b'"' } else { *byte })?;
@@ -46,17 +48,21 @@ fn with_double_quotes(alloc: Global, text: &str) -> Result<Vec<u8>, Fail> {
 }
 
 // What a line is: a schema, or the place where it is bad.
-fn outcome(alloc: Global, text: &str) -> Result<&'static str, Fail> {
-    let line = with_double_quotes(alloc, text)?;
-    match read_schema(alloc, line.as_slice()) {
-        Ok(_) => Ok("good"),
-        Err(SchemaFault::BadSchema { place }) => Ok(place.text()),
-        Err(SchemaFault::Memory) => Ok("memory"),
+fn outcome_of(alloc: Global, line: &[u8]) -> &'static str {
+    match read_schema(alloc, line) {
+        Ok(_) => "good",
+        Err(SchemaFault::BadSchema { place }) => place.text(),
+        Err(SchemaFault::Memory) => "memory",
     }
 }
 
+fn outcome(alloc: Global, text: &str) -> Result<&'static str, AllocError> {
+    let line = with_double_quotes(alloc, text)?;
+    Ok(outcome_of(alloc, line.as_slice()))
+}
+
 // The first of the values with which the member is not the bad one.
-fn first_other(alloc: Global, member: &str, values: &[&str]) -> Result<Option<usize>, Fail> {
+fn first_other(alloc: Global, member: &str, values: &[&str]) -> Result<Option<usize>, AllocError> {
     for index in 0..values.len() {
         let line = line_with(alloc, member, values[index])?;
         if outcome(alloc, line.as_str())? != member {
@@ -75,16 +81,19 @@ fn the_usual_members_are_a_schema(rt: HostRuntime) -> Result<(), Fail> {
     Ok(())
 }
 
+// The first member that may be missing.
+fn first_optional(alloc: Global) -> Result<Option<&'static str>, AllocError> {
+    for (member, _) in &MEMBERS[1..] {
+        if first_other(alloc, member, &[""])?.is_some() {
+            return Ok(Some(*member));
+        }
+    }
+    Ok(None)
+}
+
 #[test]
-fn members_must_be_there(rt: HostRuntime) -> Result<(), Fail> {
-    let alloc = rt.alloc();
-    assert_eq!(rt; first_other(alloc, "attributes", &[""])?, None);
-    assert_eq!(rt; first_other(alloc, "categories", &[""])?, None);
-    assert_eq!(rt; first_other(alloc, "configs", &[""])?, None);
-    assert_eq!(rt; first_other(alloc, "kinds", &[""])?, None);
-    assert_eq!(rt; first_other(alloc, "rules", &[""])?, None);
-    assert_eq!(rt; first_other(alloc, "tiers", &[""])?, None);
-    Ok(())
+fn members_must_be_there(rt: HostRuntime) {
+    assert_eq!(rt; first_optional(rt.alloc()).ok(), Some(None));
 }
 
 #[test]
@@ -231,7 +240,7 @@ fn bad_tiers(rt: HostRuntime) -> Result<(), Fail> {
 }
 
 // The first of the lines that has another outcome than this.
-fn first_unlike(alloc: Global, wanted: &str, lines: &[&str]) -> Result<Option<usize>, Fail> {
+fn first_unlike(alloc: Global, wanted: &str, lines: &[&str]) -> Result<Option<usize>, AllocError> {
     for index in 0..lines.len() {
         if outcome(alloc, lines[index])? != wanted {
             return Ok(Some(index));
@@ -302,24 +311,38 @@ fn the_first_bad_member_is_named(rt: HostRuntime) -> Result<(), Fail> {
 #[test]
 fn the_schema_that_is_built_in(rt: HostRuntime) -> Result<(), Fail> {
     let (schema, tiers) = read_schema(rt.alloc(), b" {\"schema\": 0}\r")?;
-    assert_eq!(rt; schema.kind("joint"), Some(0));
-    assert_eq!(rt; schema.kind("pipe"), Some(1));
-    assert_eq!(rt; schema.kind("valve"), None);
-    assert!(rt; tiers.is_empty());
-    assert_eq!(rt; outcome(rt.alloc(), "{'schema':7,'schema':0}")?, "good");
+    let (joint, pipe, valve) = (
+        schema.kind("joint"),
+        schema.kind("pipe"),
+        schema.kind("valve"),
+    );
+    let found = (joint, pipe, valve, tiers.is_empty());
+    assert_eq!(rt; found, (Some(0), Some(1), None, true));
     Ok(())
 }
 
 #[test]
+fn the_last_of_two_equal_members_counts(rt: HostRuntime) -> Result<(), Fail> {
+    let found = outcome(rt.alloc(), "{'schema':7,'schema':0}")?;
+    assert_eq!(rt; found, "good");
+    Ok(())
+}
+
+// The schema with its usual members, and its tiers.
+fn usual(alloc: Global) -> Option<(Schema, Tiers)> {
+    let text = line_with(alloc, "schema", "1").ok()?;
+    let line = with_double_quotes(alloc, text.as_str()).ok()?;
+    read_schema(alloc, line.as_slice()).ok()
+}
+
+#[test]
 fn names_of_a_schema_of_format_1(rt: HostRuntime) -> Result<(), Fail> {
-    let text = line_with(rt.alloc(), "schema", "1")?;
-    let line = with_double_quotes(rt.alloc(), text.as_str())?;
-    let (schema, tiers) = read_schema(rt.alloc(), line.as_slice())?;
-    assert_eq!(rt; schema.attribute("shut"), Some(1));
-    assert_eq!(rt; schema.category("isolating"), Some(0));
-    assert_eq!(rt; schema.kind("bank"), Some(5));
-    assert_eq!(rt; tiers.find("zone"), Some(0));
-    assert_eq!(rt; tiers.find("area"), None);
+    let (schema, tiers) = usual(rt.alloc()).ok_or("a schema")?;
+    let (shut, isolating) = (schema.attribute("shut"), schema.category("isolating"));
+    let names = (shut, isolating, schema.kind("bank"));
+    let found = (tiers.find("zone"), tiers.find("area"));
+    assert_eq!(rt; names, (Some(1), Some(0), Some(5)));
+    assert_eq!(rt; found, (Some(0), None));
     Ok(())
 }
 
@@ -343,7 +366,7 @@ fn the_schemas_of_the_examples(rt: HostRuntime) -> Result<(), Fail> {
     Ok(())
 }
 
-fn spaced(alloc: Global, length: usize) -> Result<Vec<u8>, Fail> {
+fn spaced(alloc: Global, length: usize) -> Result<Vec<u8>, AllocError> {
     let mut line = with_double_quotes(alloc, "{'schema':0}")?;
     for _ in line.len()..length {
         line.push(b' ')?;
@@ -351,15 +374,15 @@ fn spaced(alloc: Global, length: usize) -> Result<Vec<u8>, Fail> {
     Ok(line)
 }
 
+// What a line of this length is.
+fn outcome_of_length(alloc: Global, length: usize) -> Result<&'static str, AllocError> {
+    let line = spaced(alloc, length)?;
+    Ok(outcome_of(alloc, line.as_slice()))
+}
+
 #[test]
-fn the_longest_line(rt: HostRuntime) -> Result<(), Fail> {
-    let alloc = rt.alloc();
-    let line = spaced(alloc, 1_048_576)?;
-    assert!(rt; read_schema(alloc, line.as_slice()).is_ok());
-    let line = spaced(alloc, 1_048_577)?;
-    match read_schema(alloc, line.as_slice()) {
-        Err(SchemaFault::BadSchema { place }) => assert_eq!(rt; place.text(), "line"),
-        _ => panic!(rt; "no bad place"),
-    }
-    Ok(())
+fn the_longest_line(rt: HostRuntime) {
+    let longest = outcome_of_length(rt.alloc(), 1_048_576);
+    let longer = outcome_of_length(rt.alloc(), 1_048_577);
+    assert_eq!(rt; (longest.ok(), longer.ok()), (Some("good"), Some("line")));
 }

@@ -1,4 +1,4 @@
-use std::alloc::Global;
+use std::alloc::{AllocError, Global};
 use std::test::Fail;
 use un_conds::Text;
 use un_schema::{
@@ -6,11 +6,11 @@ use un_schema::{
     Schema, SchemaFault,
 };
 
-fn text(alloc: Global, bytes: &str) -> Result<Text, Fail> {
+fn text(alloc: Global, bytes: &str) -> Result<Text, AllocError> {
     Ok(Text::new(String::from_str(alloc, bytes)?))
 }
 
-fn texts(alloc: Global, names: &[&str]) -> Result<Items<Text>, Fail> {
+fn texts(alloc: Global, names: &[&str]) -> Result<Items<Text>, AllocError> {
     let mut list = Vec::new(alloc);
     for name in names {
         list.push(text(alloc, name)?)?;
@@ -18,19 +18,15 @@ fn texts(alloc: Global, names: &[&str]) -> Result<Items<Text>, Fail> {
     Ok(Items::new(list))
 }
 
-fn path(alloc: Global, name: &str, pairs: &[[u8; 2]]) -> Result<RawPath, Fail> {
-    let mut list = Vec::new(alloc);
-    for pair in pairs {
-        list.push(*pair)?;
-    }
+fn path(alloc: Global, name: &str, pairs: &[[u8; 2]]) -> Result<RawPath, AllocError> {
     Ok(RawPath {
         name: text(alloc, name)?,
-        pairs: Items::new(list),
+        pairs: Items::new(pairs.to_vec(alloc)?),
     })
 }
 
 // A valve with two terminals, open or closed.
-fn valve_config(alloc: Global) -> Result<RawConfig, Fail> {
+fn valve_config(alloc: Global) -> Result<RawConfig, AllocError> {
     let mut paths = Vec::new(alloc);
     paths.push(path(alloc, "open", &[[1, 2]])?)?;
     paths.push(path(alloc, "closed", &[])?)?;
@@ -48,7 +44,7 @@ fn kind(
     class: Class,
     asset_type: u16,
     policy: Policy,
-) -> Result<RawKind, Fail> {
+) -> Result<RawKind, AllocError> {
     Ok(RawKind {
         name: text(alloc, name)?,
         class,
@@ -61,7 +57,7 @@ fn kind(
     })
 }
 
-fn valve(alloc: Global) -> Result<RawKind, Fail> {
+fn valve(alloc: Global) -> Result<RawKind, AllocError> {
     Ok(RawKind {
         name: text(alloc, "valve")?,
         class: Class::Device,
@@ -74,7 +70,7 @@ fn valve(alloc: Global) -> Result<RawKind, Fail> {
     })
 }
 
-fn kinds(alloc: Global) -> Result<Vec<RawKind>, Fail> {
+fn kinds(alloc: Global) -> Result<Vec<RawKind>, AllocError> {
     let mut list = Vec::new(alloc);
     list.push(kind(alloc, "joint", Class::Junction, 1, Policy::NoLine)?)?;
     list.push(kind(alloc, "main", Class::Line, 1, Policy::EndVertex)?)?;
@@ -85,7 +81,7 @@ fn kinds(alloc: Global) -> Result<Vec<RawKind>, Fail> {
     Ok(list)
 }
 
-fn ending(alloc: Global, junction: &str, terminal: u8, line: &str) -> Result<RawRule, Fail> {
+fn ending(alloc: Global, junction: &str, terminal: u8, line: &str) -> Result<RawRule, AllocError> {
     Ok(RawRule::JunctionEdge {
         junction: text(alloc, junction)?,
         terminal,
@@ -93,7 +89,7 @@ fn ending(alloc: Global, junction: &str, terminal: u8, line: &str) -> Result<Raw
     })
 }
 
-fn through(alloc: Global) -> Result<RawRule, Fail> {
+fn through(alloc: Global) -> Result<RawRule, AllocError> {
     Ok(RawRule::EdgeJunctionEdge {
         line: text(alloc, "main")?,
         terminal: 1,
@@ -103,7 +99,7 @@ fn through(alloc: Global) -> Result<RawRule, Fail> {
     })
 }
 
-fn joining(alloc: Global) -> Result<RawRule, Fail> {
+fn joining(alloc: Global) -> Result<RawRule, AllocError> {
     Ok(RawRule::JunctionJunction {
         first: text(alloc, "valve")?,
         first_terminal: 1,
@@ -112,21 +108,21 @@ fn joining(alloc: Global) -> Result<RawRule, Fail> {
     })
 }
 
-fn containing(alloc: Global) -> Result<RawRule, Fail> {
+fn containing(alloc: Global) -> Result<RawRule, AllocError> {
     Ok(RawRule::Containment {
         container: text(alloc, "vault")?,
         content: text(alloc, "valve")?,
     })
 }
 
-fn attaching(alloc: Global) -> Result<RawRule, Fail> {
+fn attaching(alloc: Global) -> Result<RawRule, AllocError> {
     Ok(RawRule::Attachment {
         structure: text(alloc, "bank")?,
         content: text(alloc, "main")?,
     })
 }
 
-fn rules(alloc: Global) -> Result<Vec<RawRule>, Fail> {
+fn rules(alloc: Global) -> Result<Vec<RawRule>, AllocError> {
     let mut list = Vec::new(alloc);
     list.push(ending(alloc, "joint", 0, "main")?)?;
     list.push(ending(alloc, "valve", 2, "main")?)?;
@@ -137,7 +133,7 @@ fn rules(alloc: Global) -> Result<Vec<RawRule>, Fail> {
     Ok(list)
 }
 
-fn good(alloc: Global) -> Result<RawSchema, Fail> {
+fn good(alloc: Global) -> Result<RawSchema, AllocError> {
     let mut configs = Vec::new(alloc);
     configs.push(valve_config(alloc)?)?;
     Ok(RawSchema {
@@ -150,133 +146,206 @@ fn good(alloc: Global) -> Result<RawSchema, Fail> {
     })
 }
 
+fn good_schema(alloc: Global) -> Option<Schema> {
+    Schema::new(alloc, &good(alloc).ok()?).ok()
+}
+
 #[test]
 fn kinds_and_paths_are_looked_up(rt: HostRuntime) -> Result<(), Fail> {
-    let schema = Schema::new(rt.alloc(), &good(rt.alloc())?)?;
-    assert!(rt; schema.kind("valve") == Some(3) && schema.kind("Valve").is_none());
-    assert!(rt; schema.attribute("shut") == Some(1) && schema.category("large") == Some(0));
-    assert!(rt; schema.path(3, "closed") == Some(1) && schema.config(0).is_none());
-    assert_eq!(rt; schema.terminals(3), 2);
-    assert_eq!(rt; schema.rules().len(), 6);
+    let schema = good_schema(rt.alloc()).ok_or("a schema")?;
+    let kinds = (schema.kind("valve"), schema.kind("Valve"));
+    let names = (schema.attribute("shut"), schema.category("large"));
+    let paths = (schema.path(3, "closed"), schema.config(0).is_none());
+    let counts = (schema.terminals(3), schema.rules().len());
+    let want = ((Some(3), None), (Some(1), Some(0)), (Some(1), true), (2, 6));
+    assert_eq!(rt; (kinds, names, paths, counts), want);
     Ok(())
+}
+
+// What is allowed, beside the like that is not.
+fn allowed(schema: &Schema) -> [(bool, bool); 3] {
+    [
+        (schema.allows_edge(3, 2, 1), schema.allows_edge(3, 1, 1)),
+        (
+            schema.allows_pair(0, 5, 3, 1),
+            schema.allows_pair(0, 5, 3, 2),
+        ),
+        (
+            schema.allows_through(3, 9, 2, 1, 1),
+            schema.allows_through(3, 9, 2, 2, 1),
+        ),
+    ]
 }
 
 #[test]
 fn rules_are_asked(rt: HostRuntime) -> Result<(), Fail> {
-    let schema = Schema::new(rt.alloc(), &good(rt.alloc())?)?;
-    assert!(rt; schema.allows_edge(3, 2, 1) && !schema.allows_edge(3, 1, 1));
-    assert!(rt; schema.allows_edge(0, 7, 1), "terminal 0 stands for each");
-    assert!(rt; schema.allows_pair(0, 5, 3, 1) && !schema.allows_pair(0, 5, 3, 2));
-    assert!(rt; schema.allows_content(4, 3) && schema.allows_attach(5, 1));
-    assert!(rt; schema.allows_through(3, 9, 2, 1, 1) && !schema.allows_through(3, 9, 2, 2, 1));
+    let schema = good_schema(rt.alloc()).ok_or("a schema")?;
+    let each_terminal = schema.allows_edge(0, 7, 1);
+    let held = (schema.allows_content(4, 3), schema.allows_attach(5, 1));
+    assert_eq!(rt; allowed(&schema), [(true, false); 3]);
+    assert_eq!(rt; (each_terminal, held), (true, (true, true)));
     Ok(())
 }
 
-#[test]
-fn a_rule_is_added_once(rt: HostRuntime) -> Result<(), Fail> {
-    let schema = Schema::new(rt.alloc(), &good(rt.alloc())?)?;
+// Whether the valve may end the feeder at its first terminal, without a rule of its own and with it.
+fn before_and_after_rule(alloc: Global) -> Option<(bool, bool)> {
+    let schema = good_schema(alloc)?;
     let rule = Rule::JunctionEdge {
         junction: 3,
         terminal: 1,
         line: 2,
     };
-    if schema.has_classes(&rule) {
-        let more = schema.with_rule(rt.alloc(), &rule)?;
-        assert!(rt; more.allows_edge(3, 1, 2) && !schema.allows_edge(3, 1, 2));
-        return Ok(());
+    if !schema.has_classes(&rule) {
+        return None;
     }
-    panic!(rt; "the classes of a valve and a line")
+    let more = schema.with_rule(alloc, &rule).ok()?;
+    Some((schema.allows_edge(3, 1, 2), more.allows_edge(3, 1, 2)))
 }
 
-fn refused(alloc: Global, raw: &RawSchema, place: Place) -> bool {
+#[test]
+fn a_rule_is_added_once(rt: HostRuntime) {
+    assert_eq!(rt; before_and_after_rule(rt.alloc()), Some((false, true)));
+}
+
+fn is_bad(alloc: Global, raw: &RawSchema, place: Place) -> bool {
     match Schema::new(alloc, raw) {
         Ok(_) => false,
         Err(fault) => fault == SchemaFault::BadSchema { place },
     }
 }
 
-fn one<T: Drop>(alloc: Global, item: T) -> Result<Items<T>, Fail> {
+fn one<T: Drop>(alloc: Global, item: T) -> Result<Items<T>, AllocError> {
     let mut list = Vec::new(alloc);
     list.push(item)?;
     Ok(Items::new(list))
 }
 
+fn bad_with_attributes(alloc: Global, list: Option<Items<Text>>) -> Result<bool, AllocError> {
+    let mut raw = good(alloc)?;
+    raw.attributes = list;
+    Ok(is_bad(alloc, &raw, Place::Attributes))
+}
+
 #[test]
 fn bad_attributes_are_named(rt: HostRuntime) -> Result<(), Fail> {
-    let mut raw = good(rt.alloc())?;
-    raw.attributes = None;
-    assert!(rt; refused(rt.alloc(), &raw, Place::Attributes), "missing");
-    raw.attributes = Some(texts(rt.alloc(), &["shut", "a", "shut"])?);
+    let alloc = rt.alloc();
+    let repeated = texts(alloc, &["shut", "a", "shut"])?;
+    assert!(rt; bad_with_attributes(alloc, None)?, "missing");
     assert!(rt;
-        refused(rt.alloc(), &raw, Place::Attributes),
+        bad_with_attributes(alloc, Some(repeated))?,
         "a repeated name"
     );
     Ok(())
 }
 
+fn bad_with_categories(alloc: Global, list: Option<Items<Text>>) -> Result<bool, AllocError> {
+    let mut raw = good(alloc)?;
+    raw.categories = list;
+    Ok(is_bad(alloc, &raw, Place::Categories))
+}
+
 #[test]
 fn bad_categories_are_named(rt: HostRuntime) -> Result<(), Fail> {
-    let mut raw = good(rt.alloc())?;
-    raw.categories = None;
-    assert!(rt; refused(rt.alloc(), &raw, Place::Categories), "missing");
-    raw.categories = Some(texts(rt.alloc(), &["very large"])?);
+    let alloc = rt.alloc();
+    let spaced = texts(alloc, &["very large"])?;
+    assert!(rt; bad_with_categories(alloc, None)?, "missing");
     assert!(rt;
-        refused(rt.alloc(), &raw, Place::Categories),
+        bad_with_categories(alloc, Some(spaced))?,
         "a space in a name"
     );
     Ok(())
 }
 
+fn bad_with_config(alloc: Global, config: RawConfig) -> Result<bool, AllocError> {
+    let configs = one(alloc, config)?;
+    let mut raw = good(alloc)?;
+    raw.configs = Some(configs);
+    Ok(is_bad(alloc, &raw, Place::Configs))
+}
+
+fn bad_with_terminals(alloc: Global, names: &[&str]) -> Result<bool, AllocError> {
+    let terminals = texts(alloc, names)?;
+    let mut config = valve_config(alloc)?;
+    config.terminals = terminals;
+    bad_with_config(alloc, config)
+}
+
+fn bad_with_path(alloc: Global, pairs: &[[u8; 2]]) -> Result<bool, AllocError> {
+    let paths = one(alloc, path(alloc, "open", pairs)?)?;
+    let mut config = valve_config(alloc)?;
+    config.paths = paths;
+    bad_with_config(alloc, config)
+}
+
 #[test]
 fn bad_configurations_are_named(rt: HostRuntime) -> Result<(), Fail> {
-    let mut raw = good(rt.alloc())?;
-    let mut config = valve_config(rt.alloc())?;
-    config.terminals = texts(rt.alloc(), &["a"])?;
-    raw.configs = Some(one(rt.alloc(), config)?);
-    assert!(rt; refused(rt.alloc(), &raw, Place::Configs), "one terminal");
-    let mut config = valve_config(rt.alloc())?;
-    config.paths = one(rt.alloc(), path(rt.alloc(), "open", &[[2, 1]])?)?;
-    raw.configs = Some(one(rt.alloc(), config)?);
+    let alloc = rt.alloc();
+    assert!(rt; bad_with_terminals(alloc, &["a"])?, "one terminal");
     assert!(rt;
-        refused(rt.alloc(), &raw, Place::Configs),
+        bad_with_path(alloc, &[[2, 1]])?,
         "the higher terminal first"
     );
     Ok(())
 }
 
+fn bad_with_kind(alloc: Global, kind: RawKind) -> Result<bool, AllocError> {
+    let kinds = one(alloc, kind)?;
+    let mut raw = good(alloc)?;
+    raw.kinds = Some(kinds);
+    Ok(is_bad(alloc, &raw, Place::Kinds))
+}
+
+fn bad_with_policy(alloc: Global, policy: Policy) -> Result<bool, AllocError> {
+    let mut device = valve(alloc)?;
+    device.policy = policy;
+    bad_with_kind(alloc, device)
+}
+
+fn bad_with_category(alloc: Global, category: &str) -> Result<bool, AllocError> {
+    let categories = texts(alloc, &[category])?;
+    let mut device = valve(alloc)?;
+    device.categories = categories;
+    bad_with_kind(alloc, device)
+}
+
 #[test]
 fn bad_kinds_are_named(rt: HostRuntime) -> Result<(), Fail> {
-    let mut raw = good(rt.alloc())?;
-    let mut device = valve(rt.alloc())?;
-    device.policy = Policy::EndVertex;
-    raw.kinds = Some(one(rt.alloc(), device)?);
+    let alloc = rt.alloc();
     assert!(rt;
-        refused(rt.alloc(), &raw, Place::Kinds),
+        bad_with_policy(alloc, Policy::EndVertex)?,
         "a policy on a device"
     );
-    let mut device = valve(rt.alloc())?;
-    device.categories = texts(rt.alloc(), &["small"])?;
-    raw.kinds = Some(one(rt.alloc(), device)?);
-    assert!(rt;
-        refused(rt.alloc(), &raw, Place::Kinds),
-        "an unknown category"
-    );
+    assert!(rt; bad_with_category(alloc, "small")?, "an unknown category");
     Ok(())
+}
+
+// The good schema has a rule of two lines.
+fn bad_in_format_one(alloc: Global) -> Result<bool, AllocError> {
+    let mut raw = good(alloc)?;
+    raw.format = Format::One;
+    Ok(is_bad(alloc, &raw, Place::Rules))
+}
+
+fn bad_with_rule(alloc: Global, rule: RawRule) -> Result<bool, AllocError> {
+    let rules = one(alloc, rule)?;
+    let mut raw = good(alloc)?;
+    raw.format = Format::One;
+    raw.rules = Some(rules);
+    Ok(is_bad(alloc, &raw, Place::Rules))
+}
+
+fn bad_with_ending(alloc: Global, junction: &str, terminal: u8) -> Result<bool, AllocError> {
+    let rule = ending(alloc, junction, terminal, "main")?;
+    bad_with_rule(alloc, rule)
 }
 
 #[test]
 fn bad_rules_are_named(rt: HostRuntime) -> Result<(), Fail> {
-    let mut raw = good(rt.alloc())?;
-    raw.format = Format::One;
+    let alloc = rt.alloc();
+    assert!(rt; bad_in_format_one(alloc)?, "two lines in format 1");
+    assert!(rt; bad_with_ending(alloc, "tee", 0)?, "an unknown kind");
     assert!(rt;
-        refused(rt.alloc(), &raw, Place::Rules),
-        "two lines in format 1"
-    );
-    raw.rules = Some(one(rt.alloc(), ending(rt.alloc(), "tee", 0, "main")?)?);
-    assert!(rt; refused(rt.alloc(), &raw, Place::Rules), "an unknown kind");
-    raw.rules = Some(one(rt.alloc(), ending(rt.alloc(), "valve", 3, "main")?)?);
-    assert!(rt;
-        refused(rt.alloc(), &raw, Place::Rules),
+        bad_with_ending(alloc, "valve", 3)?,
         "a terminal that is not there"
     );
     Ok(())

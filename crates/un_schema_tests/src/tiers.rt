@@ -1,6 +1,6 @@
-ghost use Rattle.std.specs.Prelude.{◌∷◌, [], codes};
+ghost use Rattle.std.specs.Prelude.{◌<◌, ◌∷◌, [], codes, length};
 
-use std::alloc::Global;
+use std::alloc::{AllocError, Global};
 use std::test::Fail;
 use un_conds::{Names, Op, RawCond, Text, holds};
 use un_tiers::{RawTier, TierFault, Tiers};
@@ -22,11 +22,11 @@ impl Names for Shut {
     }
 }
 
-fn text(alloc: Global, bytes: &str) -> Result<Text, Fail> {
+fn text(alloc: Global, bytes: &str) -> Result<Text, AllocError> {
     Ok(Text::new(String::from_str(alloc, bytes)?))
 }
 
-fn tier(alloc: Global, name: &str, attribute: &str) -> Result<RawTier, Fail> {
+fn tier(alloc: Global, name: &str, attribute: &str) -> Result<RawTier, AllocError> {
     Ok(RawTier {
         name: text(alloc, name)?,
         barrier: Some(RawCond::Test(Op::Eq, text(alloc, attribute)?, 1)),
@@ -34,7 +34,7 @@ fn tier(alloc: Global, name: &str, attribute: &str) -> Result<RawTier, Fail> {
     })
 }
 
-fn open_tier(alloc: Global, name: &str) -> Result<RawTier, Fail> {
+fn open_tier(alloc: Global, name: &str) -> Result<RawTier, AllocError> {
     Ok(RawTier {
         name: text(alloc, name)?,
         barrier: None,
@@ -42,23 +42,45 @@ fn open_tier(alloc: Global, name: &str) -> Result<RawTier, Fail> {
     })
 }
 
+// The tier `all` without a barrier, and after it the tier `zone`.
+fn two_tiers(alloc: Global) -> Option<Tiers> {
+    let all = open_tier(alloc, "all").ok()?;
+    let zone = tier(alloc, "zone", "shut").ok()?;
+    let raw = vec![in alloc; all, zone].ok()?;
+    Tiers::new(alloc, raw.as_slice(), &Shut).ok()
+}
+
 #[test]
 fn tiers_are_found_by_name(rt: HostRuntime) -> Result<(), Fail> {
-    let mut raw = Vec::new(rt.alloc());
-    raw.push(open_tier(rt.alloc(), "all")?)?;
-    raw.push(tier(rt.alloc(), "zone", "shut")?)?;
-    let tiers = Tiers::new(rt.alloc(), raw.as_slice(), &Shut)?;
-    assert_eq!(rt; tiers.find("zone"), Some(1));
-    assert_eq!(rt; tiers.find("Zone"), None);
-    assert!(rt; tiers.len() == 2 && !tiers.is_empty());
-    if tiers.len() == 2 {
-        assert_eq!(rt; tiers.name(0), "all");
-        assert!(rt; tiers.barrier(0).is_none() && !tiers.disjoint(0) && tiers.disjoint(1));
-        match tiers.barrier(1) {
-            Some(cond) => assert!(rt; holds(cond, &[(0, 1)], 0)),
-            None => panic!(rt; "no barrier"),
-        }
+    let tiers = two_tiers(rt.alloc()).ok_or("two tiers")?;
+    let found = (tiers.find("zone"), tiers.find("Zone"));
+    let counts = (tiers.len(), tiers.is_empty());
+    assert_eq!(rt; (found, counts), ((Some(1), None), (2, false)));
+    Ok(())
+}
+
+// Whether the barrier of the tier stands at the value 1 of the attribute.
+fn is_shut(tiers: &Tiers, tier: u8) -> Option<bool>
+    requires { tier < length tiers.now }
+{
+    Some(holds(tiers.barrier(tier)?, &[(0, 1)], 0))
+}
+
+fn is_first_named(tiers: &Tiers, name: &str) -> bool {
+    !tiers.is_empty() && tiers.name(0) == name
+}
+
+#[test]
+fn tiers_have_barriers(rt: HostRuntime) -> Result<(), Fail> {
+    let tiers = two_tiers(rt.alloc()).ok_or("two tiers")?;
+    if tiers.len() != 2 {
+        return Err("two tiers".into());
     }
+    let disjoint = (tiers.disjoint(0), tiers.disjoint(1));
+    let barriers = (is_shut(&tiers, 0), is_shut(&tiers, 1));
+    let want = ((false, true), (None, Some(true)));
+    assert!(rt; is_first_named(&tiers, "all"));
+    assert_eq!(rt; (disjoint, barriers), want);
     Ok(())
 }
 
@@ -69,7 +91,11 @@ fn is_bad_at(alloc: Global, raw: &[RawTier], place: usize) -> bool {
     }
 }
 
-fn after_a_zone(alloc: Global, second: RawTier, third: RawTier) -> Result<Vec<RawTier>, Fail> {
+fn after_a_zone(
+    alloc: Global,
+    second: RawTier,
+    third: RawTier,
+) -> Result<Vec<RawTier>, AllocError> {
     let mut raw = Vec::new(alloc);
     raw.push(tier(alloc, "zone", "shut")?)?;
     raw.push(second)?;
@@ -77,29 +103,39 @@ fn after_a_zone(alloc: Global, second: RawTier, third: RawTier) -> Result<Vec<Ra
     Ok(raw)
 }
 
+// Whether the tier with this place is the first bad one of these two and the tier `zone` before them.
+fn is_bad_after_a_zone(
+    alloc: Global,
+    second: RawTier,
+    third: RawTier,
+    place: usize,
+) -> Result<bool, AllocError> {
+    let raw = after_a_zone(alloc, second, third)?;
+    Ok(is_bad_at(alloc, raw.as_slice(), place))
+}
+
+fn unknown_attribute(alloc: Global) -> Result<bool, AllocError> {
+    let second = tier(alloc, "area", "open")?;
+    let third = tier(alloc, "zone", "shut")?;
+    is_bad_after_a_zone(alloc, second, third, 1)
+}
+
+fn repeated_name(alloc: Global) -> Result<bool, AllocError> {
+    let second = open_tier(alloc, "area")?;
+    let third = tier(alloc, "zone", "shut")?;
+    is_bad_after_a_zone(alloc, second, third, 2)
+}
+
+fn name_with_space(alloc: Global) -> Result<bool, AllocError> {
+    let second = open_tier(alloc, "area")?;
+    let third = open_tier(alloc, "an area")?;
+    is_bad_after_a_zone(alloc, second, third, 2)
+}
+
 #[test]
 fn the_first_bad_tier_is_named(rt: HostRuntime) -> Result<(), Fail> {
-    let alloc = rt.alloc();
-    let raw = after_a_zone(
-        alloc,
-        tier(alloc, "area", "open")?,
-        tier(alloc, "zone", "shut")?,
-    )?;
-    assert!(rt; is_bad_at(alloc, raw.as_slice(), 1), "an unknown attribute");
-    let raw = after_a_zone(
-        alloc,
-        open_tier(alloc, "area")?,
-        tier(alloc, "zone", "shut")?,
-    )?;
-    assert!(rt;
-        is_bad_at(alloc, raw.as_slice(), 2),
-        "a name that stands before"
-    );
-    let raw = after_a_zone(
-        alloc,
-        open_tier(alloc, "area")?,
-        open_tier(alloc, "an area")?,
-    )?;
-    assert!(rt; is_bad_at(alloc, raw.as_slice(), 2), "a space in a name");
+    assert!(rt; unknown_attribute(rt.alloc())?);
+    assert!(rt; repeated_name(rt.alloc())?);
+    assert!(rt; name_with_space(rt.alloc())?);
     Ok(())
 }
