@@ -5,6 +5,7 @@ use Rattle.std.specs.List.{list_all}
 use Rattle.std.specs.Option.{option_map, option_map_or}
 use Rattle.un_schema.specs.declared.place.Place.TheVariants as place
 use Rattle.un_schema.specs.Sound.{IsCatalog}
+use Rattle.un_schema.specs.declared.rule.Rule.{Rule}
 use Rattle.un_defs.specs.declared.edit.Edit.{Edit}
 use Rattle.un_defs.specs.declared.refusal.Refusal.{Refusal}
 use Rattle.un_defs.specs.declared.refusal.Refusal.TheVariants as refusal
@@ -19,7 +20,8 @@ use Rattle.un_facts.proofs.Alone.{unmapped, fails}
 use Rattle.un_facts.proofs.Makeable.{made}
 use Rattle.un_tiers.specs.declared.setup.Setup.{Setup}
 use Rattle.un_core.specs.State.{State, known, next_ids}
-use Rattle.un_core.specs.Step.{setting, next_with, made_at, made_by_all, next_state}
+use Rattle.un_core.specs.History.{after_all}
+use Rattle.un_core.specs.Step.{setting, next_with, made_at, made_by_all, rule_of, ruled, next_state}
 use Rattle.un_core.specs.Cover.{IsState, MayAllBeMade, MayHappen, MayAllHappen}
 use Rattle.un_core.specs.Refusals.{numbers_refusal, beside_numbers, first_refused}
 use Rattle.un_core.specs.Commands.{is_known, unknown, known_refusal, command_refusal}
@@ -27,6 +29,7 @@ use Rattle.un_core.specs.Accepted.{IsAfter, MayLaw, SetupLaw, OpeningLaw, AfterL
 use Rattle.un_core.proofs.CoverKept.{made_state, cover_is_kept}
 use Rattle.un_core.proofs.Opening.{opening_state}
 use Rattle.un_core.proofs.HistoryKept.{kept_is_history}
+use Rattle.un_core.proofs.Applying.{ruled_version}
 
 -- ---- the edits of a batch
 
@@ -47,8 +50,13 @@ made_all_setup : (s : State) (es : List Edit) → (made_by_all s es).setup ≡ s
 made_all_setup s [] = refl
 made_all_setup s (e ∷ es) = made_all_setup (made_at 0 s e) es
 
+ruled_setup : (s : State) (o : Option Rule) → (ruled s o).setup ≡ s.setup
+ruled_setup s None = refl
+ruled_setup s (Some rule) = refl
+
 pub same_setup : SetupLaw
 same_setup s (command.Batch es) = made_all_setup s es
+same_setup s (command.Rule named) = ruled_setup s (rule_of s named)
 same_setup s _ = refl
 
 -- ---- what is accepted might happen
@@ -91,7 +99,7 @@ known_may_happen s (command.Batch es) is schema known cause =
     batch_may_be_made s 0 es is schema (all_of_features es known) (unmapped (λ p. p.1) (first_refused s 0 es) refused.0)
 known_may_happen s (command.Validate extent) is schema known cause = tt
 known_may_happen s (command.Update tier subnet) is schema known cause = tt
-known_may_happen s (command.Rule rule) is schema known cause = absurd (true≢false (sym known))
+known_may_happen s (command.Rule named) is schema known cause = tt
 
 pub may_happen : MayLaw
 may_happen s c is schema none =
@@ -129,5 +137,8 @@ versions_count S [] = refl
 versions_count S (command.Edit e ∷ before) = let v = versions_count S before in omega (arith, v)
 versions_count S (command.Batch es ∷ before) = let v = versions_count S before in omega (arith, v)
 versions_count S (command.Validate extent ∷ before) = let v = versions_count S before in omega (arith, v)
-versions_count S (command.Rule rule ∷ before) = let v = versions_count S before in omega (arith, v)
+versions_count S (command.Rule named ∷ before) =
+    let v = versions_count S before in
+    let r = ruled_version (after_all S before) (rule_of (after_all S before) named) in
+    omega (arith, v, r)
 versions_count S (command.Update tier subnet ∷ before) = let v = versions_count S before in omega (arith, v)

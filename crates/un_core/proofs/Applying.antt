@@ -4,6 +4,8 @@ use Rattle.std.specs.Prelude.{not}
 use Rattle.std.specs.Option.{option_map_or}
 use Rattle.un_geom.specs.Rectangle.{Rectangle}
 use Rattle.un_schema.specs.declared.place.Place.TheVariants as place
+use Rattle.un_schema.specs.declared.rule.Rule.{Rule}
+use Rattle.un_ask.specs.declared.rule.NamedRule.{NamedRule}
 use Rattle.un_defs.specs.declared.edit.Edit.{Edit}
 use Rattle.un_defs.specs.declared.edit.Edit.TheVariants as edit
 use Rattle.un_defs.specs.declared.refusal.Refusal.{Refusal}
@@ -15,9 +17,9 @@ use Rattle.un_ask.specs.declared.request.Command.{Command}
 use Rattle.un_ask.specs.declared.request.Command.TheVariants as command
 use Rattle.un_ask.specs.declared.reply.Reply.TheVariants as reply
 use Rattle.un_core.specs.State.{State}
-use Rattle.un_core.specs.Step.{id_of, ids_of_all, dirtied_by_batch, edited, batched, next_state, dirtied_by}
+use Rattle.un_core.specs.Step.{id_of, ids_of_all, dirtied_by_batch, edited, batched, rule_of, ruled, dirtied_by_rule, next_state, dirtied_by}
 use Rattle.un_core.specs.Validation.{met, errors_under, validated}
-use Rattle.un_core.specs.Refusals.{edit_refusal, batch_refusal, update_refusal, refused_place, numbers_refusal}
+use Rattle.un_core.specs.Refusals.{edit_refusal, batch_refusal, rule_refusal, update_refusal, refused_place, numbers_refusal}
 use Rattle.un_core.specs.Updating.{updated, updated_reply}
 use Rattle.un_ask.specs.declared.reply.Reply.{Reply}
 use Rattle.un_facts.specs.Refusals.{is_of_features}
@@ -124,6 +126,27 @@ update_done s tier subnet next next_is cause reply mark reply_is mark_is =
 
 pub update_refused : (s : State) (tier subnet : List ℕ) (r : Refusal) → update_refusal s tier subnet ≡ Some r → inr (refused s r) ≡ step s (command.Update tier subnet)
 update_refused s tier subnet r cause = sym (step_refused s (command.Update tier subnet) r refl cause)
+
+-- ---- rules
+
+pub rule_done : (s : State) (named : NamedRule) (next : State) → next ≡ ruled s (rule_of s named) → rule_refusal s named ≡ None
+    → (areas : List ℕ) (rules version : ℕ) (mark : List Rectangle)
+    → areas ≡ first_and_count s.next_area (length (dirtied_by_rule s (rule_of s named))) → rules ≡ length s.features.rules + 1 → version ≡ s.version + 1
+    → mark ≡ dirtied_by_rule s (rule_of s named)
+    → inl (next, (reply.Ruled areas rules version, mark)) ≡ step s (command.Rule named)
+rule_done s named next next_is cause areas rules version mark areas_are rules_are version_is mark_is =
+    (λ i. inl (next_is i, (reply.Ruled (areas_are i) (rules_are i) (version_is i), mark_is i))) ∙ sym (step_done s (command.Rule named) refl cause)
+
+pub rule_refused : (s : State) (named : NamedRule) (r : Refusal) → rule_refusal s named ≡ Some r → inr (refused s r) ≡ step s (command.Rule named)
+rule_refused s named r cause = sym (step_refused s (command.Rule named) r refl cause)
+
+pub ruled_next_area : (s : State) (o : Option Rule) → (ruled s o).next_area ≡ s.next_area + length (dirtied_by_rule s o)
+ruled_next_area s None = omega arith
+ruled_next_area s (Some rule) = refl
+
+pub ruled_version : (s : State) (o : Option Rule) → (ruled s o).version ≡ s.version + 1
+ruled_version s None = refl
+ruled_version s (Some rule) = refl
 
 -- ---- areas
 

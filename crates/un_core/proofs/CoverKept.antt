@@ -1,5 +1,5 @@
 -- What might happen to a state leaves a state.
-use Rattle.std.proofs.Common.{◌≡◌, ◌≢◌, ℕ, ◌+◌, ◌<◌, Bool, true, false, not, List, [], ◌∷◌, ◌++◌, refl, sym, ◌∙◌, subst, All, Contains, IsFalse, find}
+use Rattle.std.proofs.Common.{◌≡◌, ◌≢◌, ℕ, ◌+◌, ◌<◌, Bool, true, false, not, List, [], ◌∷◌, ◌++◌, Option, None, Some, refl, sym, ◌∙◌, subst, All, Contains, IsFalse, find}
 use Rattle.std.specs.List.{list_any, enumerate_from}
 use Rattle.std.specs.Option.{option_map_or}
 use Rattle.std.proofs.lemmas.List.Folds.{list_any-append}
@@ -11,7 +11,9 @@ use Rattle.un_geom.specs.Places.{covers, meets}
 use Rattle.un_defs.specs.declared.port.Node.{Node}
 use Rattle.un_defs.specs.declared.link.Tie.{Tie}
 use Rattle.un_defs.specs.declared.star.Star.{Star}
+use Rattle.un_schema.specs.declared.rule.Rule.{Rule}
 use Rattle.un_defs.specs.declared.edit.Edit.{Edit}
+use Rattle.un_defs.specs.declared.edit.Edit.TheVariants as edit
 use Rattle.un_defs.specs.Orders.{same_port}
 use Rattle.un_defs.specs.Star.{star, empty_star}
 use Rattle.un_defs.specs.Change.{Next, changed, after}
@@ -28,7 +30,7 @@ use Rattle.un_core.specs.State.{State, fresh_star, kept_ground}
 use Rattle.un_core.specs.Validation.{met, unmet, is_under, rebuilt, changes_under}
 use Rattle.un_core.specs.Updating.{updated}
 use Rattle.un_ask.specs.declared.request.Command.TheVariants as command
-use Rattle.un_core.specs.Step.{setting, next_with, next_of, made_at, edited, made_by_all, touched_by_all, settled_at, batched}
+use Rattle.un_core.specs.Step.{setting, next_with, next_of, made_at, edited, made_by_all, touched_by_all, settled_at, batched, rule_of, ruled}
 use Rattle.un_core.specs.Validation.{validated}
 use Rattle.un_core.specs.Cover.{IsState, PathsStay, MayAllBeMade, MayHappen, CoverLaw}
 use Rattle.un_core.proofs.NextIds.{new_after}
@@ -178,6 +180,12 @@ stored_state s rows version is ordered = at_version (record s { stored = rows })
 updated_state : (s : State) (tier subnet : List ℕ) → IsState s → IsState (updated s tier subnet)
 updated_state s tier subnet is = stored_state s (updated s tier subnet).stored (s.version + 1) is (rows_ordered s tier subnet is.stored)
 
+-- ---- a rule
+
+ruled_state : (s : State) → IsState s → (o : Option Rule) → IsState (ruled s o)
+ruled_state s is None = at_version s (s.version + 1) is
+ruled_state s is (Some rule) = edited_state s is (edit.Rule rule) tt
+
 -- ---- all
 
 pub cover_is_kept : CoverLaw
@@ -185,4 +193,4 @@ cover_is_kept s (command.Edit e) is may = edited_state s is e may
 cover_is_kept s (command.Batch es) is may = batched_state s es is may
 cover_is_kept s (command.Validate extent) is may = validated_state s is extent
 cover_is_kept s (command.Update tier subnet) is may = updated_state s tier subnet is
-cover_is_kept s (command.Rule rule) is may = absurd may
+cover_is_kept s (command.Rule named) is may = ruled_state s is (rule_of s named)

@@ -1,10 +1,11 @@
 -- What is kept, and what is dirty, is what the history tells.
-use Rattle.std.proofs.Common.{◌≡◌, ◌||◌, ◌&&◌, ℕ, ◌+◌, Bool, true, false, not, cond, List, [], ◌∷◌, ◌++◌, length, filter, refl, sym, ap, ◌∙◌, arith, if◌then◌else◌}
+use Rattle.std.proofs.Common.{◌≡◌, ◌||◌, ◌&&◌, ℕ, ◌+◌, Bool, true, false, not, cond, List, [], ◌∷◌, ◌++◌, length, filter, Option, None, Some, refl, sym, ap, ◌∙◌, arith, if◌then◌else◌}
 use Rattle.std.specs.List.{list_any, enumerate_from}
 use Rattle.std.proofs.lemmas.List.{append-nil, append_assoc}
 use Rattle.un_geom.specs.declared.point.Point.{Point}
 use Rattle.un_geom.specs.Rectangle.{Rectangle}
 use Rattle.un_geom.specs.Places.{covers, meets}
+use Rattle.un_schema.specs.declared.rule.Rule.{Rule}
 use Rattle.un_defs.specs.declared.edit.Edit.{Edit}
 use Rattle.un_defs.specs.Dirtied.{dirtied}
 use Rattle.un_defs.proofs.ListLemmas.{filter-append}
@@ -14,7 +15,7 @@ use Rattle.un_ask.specs.declared.request.Command.TheVariants as command
 use Rattle.un_tiers.specs.declared.setup.Setup.{Setup}
 use Rattle.un_core.specs.State.{State, fresh_star}
 use Rattle.un_core.specs.Validation.{met, unmet, is_under, rebuilt}
-use Rattle.un_core.specs.Step.{made_at, made_by_all, dirtied_by_batch}
+use Rattle.un_core.specs.Step.{made_at, made_by_all, dirtied_by_batch, rule_of, ruled, dirtied_by_rule}
 use Rattle.un_core.specs.History.{after_all, made_by, clears, alive_under, dirty_after, kept_after, rebuilds}
 use Rattle.un_core.specs.Cover.{IsState, IsOfHistory, HistoryLaw}
 use Rattle.un_core.proofs.LookUps.{sorted_map}
@@ -99,6 +100,16 @@ pub made_kept : (s : State) (es : List Edit) → (made_by_all s es).kept ≡ s.k
 made_kept s [] = refl
 made_kept s (e ∷ es) = made_kept (made_at 0 s e) es
 
+-- ---- rules
+
+ruled_areas : (s : State) (o : Option Rule) → (ruled s o).areas ≡ s.areas ++ enumerate_from s.next_area (dirtied_by_rule s o)
+ruled_areas s None = sym (append-nil s.areas)
+ruled_areas s (Some rule) = refl
+
+ruled_kept : (s : State) (o : Option Rule) → (ruled s o).kept ≡ s.kept
+ruled_kept s None = refl
+ruled_kept s (Some rule) = refl
+
 -- ---- stars
 
 validated_kept : (S : Setup) (before : List Command) (extent : Rectangle) (p : Point) → IsState (after_all S before) → IsOfHistory S before
@@ -133,7 +144,13 @@ kept_is_history S (command.Validate extent ∷ before) may =
       areas = ap (unmet extent) before_is.areas ∙ sym (alive_later S [] (command.Validate extent) before) ∙ sym (append-nil (alive_under S (command.Validate extent ∷ []) before));
       kept = λ p. validated_kept S before extent p (all_states S before may.1) before_is;
     }
-kept_is_history S (command.Rule rule ∷ before) may = absurd may.0
+kept_is_history S (command.Rule named ∷ before) may =
+    let before_is = kept_is_history S before may.1 in
+    let s = after_all S before in
+    record {
+      areas = ruled_areas s (rule_of s named) ∙ grown S (command.Rule named) before (λ area. refl) before_is;
+      kept = λ p. ap (λ kept. stars_of kept p) (ruled_kept s (rule_of s named)) ∙ before_is.kept p;
+    }
 kept_is_history S (command.Update tier subnet ∷ before) may =
     let before_is = kept_is_history S before may.1 in
     record { areas = sym (append-nil (after_all S before).areas) ∙ grown S (command.Update tier subnet) before (λ area. refl) before_is; kept = before_is.kept }

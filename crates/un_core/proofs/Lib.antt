@@ -15,6 +15,7 @@ pub mod Canonical
 pub mod Nonempty
 pub mod Replaced
 pub mod Grounds
+mod InForce
 pub mod Listed
 pub mod Batching
 pub mod Pointed

@@ -24,7 +24,7 @@ use Rattle.un_core.specs.State.{State}
 use Rattle.un_core.specs.Step.{setting, next_with, next_of, made_at}
 use Rattle.un_core.specs.Cover.{IsState}
 use Rattle.un_core.specs.Held.{held}
-use Rattle.un_core.specs.Making.{AreasGrow, FeaturesGrow, AssociationsGrow}
+use Rattle.un_core.specs.Making.{AreasGrow, FeaturesGrow, AssociationsGrow, with_parts}
 use Rattle.un_core.specs.Refusals.{numbers_refusal, most_areas, too_many, beside_numbers, edit_refusal}
 use Rattle.un_core.proofs.CoverKept.{made_state, same_ids}
 use Rattle.std.proofs.lemmas.List.FromFn.{length-enumerate_from}
@@ -70,38 +70,44 @@ module _ (K : Known) (kept : List (Point × Star)) (dirty : DirtyList) (stored :
   pub new : IsState s → AreNew (next_at ids moment) K.features
   new is = same_ids (next_of s) (next_at ids moment) K.features refl refl is.fresh_ids
 
-  module _ (left : Known) (kept_left : List (Point × Star)) (dirty_left : DirtyList) (stored_left : List StoredSubnet) (ids_left : NextIds)
-      (left_is : left ≡ edited K ids moment e) (kept_is : kept_left ≡ kept) (dirty_is : dirty_left ≡ added dirty (dirtied K.features e)) (stored_is : stored_left ≡ stored)
-      (ids_are : next_at ids_left 0 ≡ after (next_at ids 0) e) where
-    abbrev with_parts : Known → List (Point × Star) → DirtyList → List StoredSubnet → Next → State
-    with_parts L stars areas rows next = record {
+  -- what is left, in a state that is this one
+  module _ (left : Known) (dirty_left : DirtyList) (ids_left : NextIds)
+      (left_is : left ≡ edited K ids moment e) (dirty_is : dirty_left ≡ added dirty (dirtied K.features e)) (ids_are : next_at ids_left 0 ≡ after (next_at ids 0) e)
+      (t : State) (same : s ≡ t) where
+    abbrev parts : Known → DirtyList → Next → State
+    parts L areas next = record s {
       setup = L.setup;
       features = L.features;
-      kept = stars;
       areas = areas.areas;
-      stored = rows;
-      version = version;
+      next_area = areas.next;
       next_feature = next.feature;
       next_association = next.association;
-      next_area = areas.next;
     }
 
-    pub state_is : held left kept_left dirty_left stored_left version ids_left ≡ made_at moment s e
-    state_is =
+    abbrev left_of : State → State
+    left_of u = with_parts u left dirty_left ids_left
+
+    state_here : left_of s ≡ made_at moment s e
+    state_here =
         let next : next_at ids_left moment ≡ after (next_at ids moment) e = ap (λ (n : Next). record n { moment = moment }) ids_are ∙ after_moment ids moment e in
-        λ i. with_parts (left_is i) (kept_is i) (dirty_is i) (stored_is i) (next i)
+        λ i. parts (left_is i) (dirty_is i) (next i)
 
-    pub is_state : IsState s → MayBeMade (setting s) (next_with s moment) s.features e → IsState (held left kept_left dirty_left stored_left version ids_left)
-    is_state is may = subst IsState (sym state_is) (made_state s is moment e may)
+    pub state_is : left_of t ≡ made_at moment t e
+    state_is = subst (λ (u : State). left_of u ≡ made_at moment u e) same state_here
 
-    pub features_grow : FeaturesGrow s (held left kept_left dirty_left stored_left version ids_left)
-    features_grow = let is = ap (λ (n : Next). n.feature) ids_are in let grows = feature_grows ids e in omega (arith, is, grows)
+    pub is_state : IsState s → MayBeMade (setting s) (next_with s moment) s.features e → IsState (left_of t)
+    is_state is may = subst (λ (u : State). IsState (left_of u)) same (subst IsState (sym state_here) (made_state s is moment e may))
 
-    pub associations_grow : AssociationsGrow s (held left kept_left dirty_left stored_left version ids_left)
-    associations_grow = let is = ap (λ (n : Next). n.association) ids_are in let grows = association_grows ids e in omega (arith, is, grows)
+    pub features_grow : FeaturesGrow t (left_of t)
+    features_grow = subst (λ (u : State). FeaturesGrow u (left_of u)) same
+        (let is = ap (λ (n : Next). n.feature) ids_are in let grows = feature_grows ids e in omega (arith, is, grows))
 
-    areas_grow : length dirty_left.areas ≤ 65536 → AreasGrow s (held left kept_left dirty_left stored_left version ids_left)
-    areas_grow few = record {
+    pub associations_grow : AssociationsGrow t (left_of t)
+    associations_grow = subst (λ (u : State). AssociationsGrow u (left_of u)) same
+        (let is = ap (λ (n : Next). n.association) ids_are in let grows = association_grows ids e in omega (arith, is, grows))
+
+    areas_grow_here : length dirty_left.areas ≤ 65536 → AreasGrow s (left_of s)
+    areas_grow_here few = record {
       given =
           let rects = dirtied K.features e in
           let next : dirty_left.next ≡ dirty.next + length rects = ap (λ (d : DirtyList). d.next) dirty_is in
@@ -112,8 +118,8 @@ module _ (K : Known) (kept : List (Point × Star)) (dirty : DirtyList) (stored :
       few = few;
     }
 
-    pub areas_grow_of : (t : State) → s ≡ t → length dirty_left.areas ≤ 65536 → AreasGrow t (held left kept_left dirty_left stored_left version ids_left)
-    areas_grow_of t same few = subst (λ (t : State). AreasGrow t (held left kept_left dirty_left stored_left version ids_left)) same (areas_grow few)
+    pub areas_grow : length dirty_left.areas ≤ 65536 → AreasGrow t (left_of t)
+    areas_grow few = subst (λ (u : State). AreasGrow u (left_of u)) same (areas_grow_here few)
 
 -- ---- refusals
 

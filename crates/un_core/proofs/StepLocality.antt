@@ -1,10 +1,12 @@
 -- A command changes the stars of the features only under the rectangles that it makes dirty.
-use Rattle.std.proofs.Common.{◌≡◌, ℕ, ◌+◌, List, [], ◌∷◌, refl, sym, ◌∙◌, IsFalse}
+use Rattle.std.proofs.Common.{◌≡◌, ℕ, ◌+◌, List, [], ◌∷◌, Option, None, Some, refl, sym, ◌∙◌, IsFalse}
 use Rattle.std.specs.List.{list_any}
 use Rattle.std.proofs.lemmas.List.Folds.{list_any-append}
 use Rattle.un_geom.specs.declared.point.Point.{Point}
 use Rattle.un_geom.specs.Places.{covers}
+use Rattle.un_schema.specs.declared.rule.Rule.{Rule}
 use Rattle.un_defs.specs.declared.edit.Edit.{Edit}
+use Rattle.un_defs.specs.declared.edit.Edit.TheVariants as edit
 use Rattle.un_defs.specs.Star.{star}
 use Rattle.un_defs.specs.Change.{changed}
 use Rattle.un_defs.specs.Dirtied.{dirtied}
@@ -13,7 +15,7 @@ use Rattle.un_defs.proofs.Locality.{locality, or_both}
 use Rattle.un_facts.proofs.Settled.{settled_star}
 use Rattle.un_ask.specs.declared.request.Command.TheVariants as command
 use Rattle.un_core.specs.State.{State, fresh_star}
-use Rattle.un_core.specs.Step.{setting, next_with, next_of, made_at, made_by_all, touched_by_all, dirtied_by_batch}
+use Rattle.un_core.specs.Step.{setting, next_with, next_of, made_at, made_by_all, touched_by_all, dirtied_by_batch, rule_of, ruled, dirtied_by_rule}
 use Rattle.un_core.specs.Cover.{IsState, MayAllBeMade, StepLocalityLaw}
 use Rattle.un_core.proofs.CoverKept.{same_ids, made_state, made_all_state}
 
@@ -31,6 +33,10 @@ batch_is_local s (e ∷ es) is may p clean =
     (sym (list_any-append (λ r. covers r p) (dirtied s.features e) (dirtied_by_batch (made_at 0 s e) es)) ∙ clean) in
     batch_is_local (made_at 0 s e) es (made_state s is 0 e may.0) may.1 p both.1 ∙ edit_is_local s is 0 e may.0 p both.0
 
+rule_is_local : (s : State) → IsState s → (o : Option Rule) (p : Point) → IsFalse (list_any (λ r. covers r p) (dirtied_by_rule s o)) → fresh_star (ruled s o) p ≡ fresh_star s p
+rule_is_local s is None p clean = refl
+rule_is_local s is (Some rule) p clean = edit_is_local s is (s.version + 1) (edit.Rule rule) tt p clean
+
 pub steps_are_local : StepLocalityLaw
 steps_are_local s (command.Edit e) is may p clean = edit_is_local s is (s.version + 1) e may p clean
 steps_are_local s (command.Batch es) is may p clean =
@@ -38,4 +44,4 @@ steps_are_local s (command.Batch es) is may p clean =
     ∙ batch_is_local s es is may p clean
 steps_are_local s (command.Validate extent) is may p clean = refl
 steps_are_local s (command.Update tier subnet) is may p clean = refl
-steps_are_local s (command.Rule rule) is may p clean = absurd may
+steps_are_local s (command.Rule named) is may p clean = rule_is_local s is (rule_of s named) p clean

@@ -69,7 +69,7 @@ accepted_short : (s : State) (c : Command) → IsShort c (accepted s c)
 accepted_short s (command.Edit e) = edit_short s e
 accepted_short s (command.Batch es) = record { command = tt; few = λ few. subst (λ n. n ≤ 256) (sym (count_ids s es)) few }
 accepted_short s (command.Validate extent) = record { command = tt; few = λ few. tt }
-accepted_short s (command.Rule rule) = record { command = tt; few = λ few. tt }
+accepted_short s (command.Rule named) = record { command = tt; few = λ few. tt }
 accepted_short s (command.Update tier subnet) = record { command = tt; few = λ few. tt }
 
 reply_short : (s : State) (c : Command) → IsShort c (command_reply s c)

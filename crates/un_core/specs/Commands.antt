@@ -1,6 +1,6 @@
 -- What a command does to a state, and what is replied to it.
 pub use Rattle.un_core.specs.Refusals.{refused}
-use Rattle.std.specs.Prelude.{◌≡◌, ◌⊎◌, ℕ, ◌+◌, ◌==◌, Bool, true, false, not, List, [], ◌∷◌, length, Option, Some, None, if◌then◌else◌}
+use Rattle.std.specs.Prelude.{◌≡◌, ◌⊎◌, ℕ, ◌+◌, ◌==◌, Bool, true, not, List, [], ◌∷◌, length, Option, Some, None, if◌then◌else◌}
 use Rattle.std.specs.List.{list_all}
 use Rattle.std.specs.Option.{option_map_or}
 use Rattle.std.proofs.Common.{inl, inr}
@@ -21,20 +21,20 @@ use Rattle.un_ask.specs.declared.reply.Reply.{Reply}
 use Rattle.un_ask.specs.declared.reply.Reply.TheVariants as reply
 use Rattle.un_ask.specs.Replies.{IsOfCommand, HasFewIds, HasFewEdits}
 use Rattle.un_core.specs.State.{State}
-use Rattle.un_core.specs.Step.{id_of, ids_of_all, dirtied_by_batch, next_state, dirtied_by}
+use Rattle.un_core.specs.Step.{id_of, ids_of_all, dirtied_by_batch, rule_of, dirtied_by_rule, next_state, dirtied_by}
 use Rattle.un_core.specs.Validation.{met, errors_under}
 use Rattle.un_core.specs.Updating.{updated_reply}
-use Rattle.un_core.specs.Refusals.{edit_refusal, batch_refusal, update_refusal, refused_place, numbers_refusal}
+use Rattle.un_core.specs.Refusals.{edit_refusal, batch_refusal, rule_refusal, update_refusal, refused_place, numbers_refusal}
 
 -- ---- which commands are taken
 
--- the commands that may be asked for yet: edits of rows, associations and controllers, one by one or in a batch; validations; and updates
+-- the commands that are taken: all but one edit or a batch that adds a rule, which has a command of its own
 abbrev pub is_known : Command → Bool
 is_known (command.Edit e) = is_of_features e
 is_known (command.Batch es) = list_all is_of_features es
 is_known (command.Validate extent) = true
 is_known (command.Update tier subnet) = true
-is_known (command.Rule rule) = false
+is_known (command.Rule named) = true
 
 -- any other is refused as one whose word is not known
 abbrev pub unknown : Command → Option Refusal
@@ -45,6 +45,7 @@ abbrev pub known_refusal : State → Command → Option Refusal
 known_refusal s (command.Edit e) = edit_refusal s e
 known_refusal s (command.Batch es) = batch_refusal s es
 known_refusal s (command.Update tier subnet) = update_refusal s tier subnet
+known_refusal s (command.Rule named) = rule_refusal s named
 known_refusal s _ = numbers_refusal s
 
 -- the first refusal of a command
@@ -92,7 +93,8 @@ accepted s (command.Batch es) =
     reply.Batch (first_and_count s.next_area (length (dirtied_by_batch s es))) (ids_of_all s es) (s.version + 1)
 accepted s (command.Validate extent) =
     reply.Validated (length (met extent s.areas)) (errors_under s (met extent s.areas)) (s.version + 1)
-accepted s (command.Rule rule) = reply.Ruled (0 ∷ 0 ∷ []) (length s.features.rules) (s.version + 1)
+accepted s (command.Rule named) =
+    reply.Ruled (first_and_count s.next_area (length (dirtied_by_rule s (rule_of s named)))) (length s.features.rules + 1) (s.version + 1)
 accepted s (command.Update tier subnet) = updated_reply s tier subnet
 
 -- the place of the edit of a batch that is refused; none where the batch is refused as a whole

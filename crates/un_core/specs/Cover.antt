@@ -44,13 +44,13 @@ abbrev pub MayAllBeMade : State → List Edit → Type 0
 MayAllBeMade s [] = ⊤
 MayAllBeMade s (e ∷ es) = MayBeMade (setting s) (next_with s 0) s.features e × MayAllBeMade (made_at 0 s e) es
 
--- An edit that is accepted may be made, and so may each of a batch; validations and updates ask for no more. No rule is added yet.
+-- an edit that is accepted may be made, and so may each of a batch; validations, updates and rules ask for no more
 abbrev pub MayHappen : State → Command → Type 0
 MayHappen s (command.Edit e) = MayBeMade (setting s) (next_of s) s.features e
 MayHappen s (command.Batch es) = MayAllBeMade s es
 MayHappen s (command.Validate extent) = ⊤
 MayHappen s (command.Update tier subnet) = ⊤
-MayHappen s (command.Rule rule) = ⊥
+MayHappen s (command.Rule named) = ⊤
 
 -- each command might happen after those before it
 abbrev pub MayAllHappen : Setup → List Command → Type 0

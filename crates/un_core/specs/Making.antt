@@ -1,6 +1,20 @@
 -- How the numbers of a state grow by an edit.
 use Rattle.std.specs.Prelude.{◌≡◌, ◌+◌, ◌≤◌, length}
+use Rattle.un_dirty.specs.Areas.{DirtyList}
+use Rattle.un_facts.specs.declared.ids.NextIds.{NextIds}
+use Rattle.un_facts.specs.Known.{Known}
 use Rattle.un_core.specs.State.{State}
+
+-- the state with what an edit changes in place of its own
+abbrev pub with_parts : State → Known → DirtyList → NextIds → State
+with_parts s known dirty ids = record s {
+  setup = known.setup;
+  features = known.features;
+  areas = dirty.areas;
+  next_area = dirty.next;
+  next_feature = ids.feature;
+  next_association = ids.association;
+}
 
 -- at most one id of a feature is given, and at most one of an association
 abbrev pub FeaturesGrow : State → State → Type 0

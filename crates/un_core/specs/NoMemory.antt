@@ -7,6 +7,7 @@ use Rattle.un_defs.specs.declared.row.Row.{Row}
 use Rattle.un_defs.specs.declared.port.Node.{Node}
 use Rattle.un_defs.specs.declared.walk.Dirt.{Dirt}
 use Rattle.un_defs.specs.declared.edit.Edit.{Edit}
+use Rattle.un_defs.specs.declared.edit.Edit.TheVariants as edit
 use Rattle.un_defs.specs.declared.refusal.Refusal.{Refusal}
 use Rattle.un_defs.specs.declared.refusal.Refusal.TheVariants as refusal
 use Rattle.un_defs.specs.declared.refusal.Limit.TheVariants as limit
@@ -16,7 +17,12 @@ use Rattle.un_defs.specs.Dirtied.{dirtied}
 use Rattle.un_defs.specs.Reach.{dirt}
 use Rattle.un_defs.specs.Refusing.{first_refusal}
 use Rattle.un_defs.proofs.NoMemory.{IsOther, AreOther, first_other, other_where}
-use Rattle.un_facts.proofs.NoMemory.{none_other, edit_other}
+use Rattle.un_facts.specs.Known.{in_force}
+use Rattle.un_facts.specs.Ruling.{rule_refusal as adding_refusal}
+use Rattle.un_facts.proofs.NoMemory.{none_other, edit_other, adding_other}
+use Rattle.un_schema.specs.declared.rule.Rule.{Rule}
+use Rattle.un_ask.specs.declared.rule.NamedRule.{NamedRule}
+use Rattle.un_resolve.specs.Rules.{naming_refusal}
 use Rattle.un_ask.specs.declared.request.Command.{Command}
 use Rattle.un_ask.specs.declared.request.Command.TheVariants as command
 use Rattle.un_ask.specs.declared.word.EditWord.{EditWord}
@@ -27,7 +33,7 @@ use Rattle.un_ask.specs.declared.typed.TypedAsk.{TypedAsk}
 use Rattle.un_ask.specs.declared.reply.Reply.{Reply}
 use Rattle.un_ask.specs.declared.reply.Reply.TheVariants as reply
 use Rattle.un_resolve.specs.Resolved.{resolved, resolving_refusal}
-use Rattle.un_resolve.proofs.NoMemory.{resolving_other}
+use Rattle.un_resolve.proofs.NoMemory.{resolving_other, naming_other}
 use Rattle.un_ask.specs.Replies.{IsNoMemory}
 use Rattle.un_loops.specs.Answer.{loops_reply, loops_given_dirt}
 use Rattle.un_isolate.specs.IsolationList.{first_in_the_way}
@@ -36,8 +42,8 @@ use Rattle.un_resolve.specs.Kinds.{is_isolation}
 use Rattle.un_defs.specs.declared.port.Port.{Port}
 use Rattle.un_trace.specs.TraceReply.{trace_reply, reply_given_dirt, lists_controllers, controllers_reply, result_reply}
 use Rattle.un_core.specs.State.{State, known, fresh_ground_of}
-use Rattle.un_core.specs.Refusals.{numbers_refusal, too_many, beside_numbers, first_refused, most_areas, last_number}
-use Rattle.un_core.specs.Step.{made_at, id_of}
+use Rattle.un_core.specs.Refusals.{numbers_refusal, too_many, beside_numbers, added_refusal, rule_refusal, first_refused, most_areas, last_number}
+use Rattle.un_core.specs.Step.{made_at, id_of, rule_of}
 use Rattle.un_core.specs.Commands.{is_known, unknown, known_refusal, command_refusal, refusal_reply, accepted, word_of, areas_of_edit, edit_reply, command_reply}
 use Rattle.un_core.specs.Answers.{Basis, answer_on, asked_on, traced_on, survey_for, reached_from, at_version, query_refusal, feature_reply, row_reply, row_in_tier, subnet_reply, refused, is_loops, reply_over}
 use Rattle.un_tiers.specs.Lists.{tier_named}
@@ -87,6 +93,17 @@ outcome_is_other s tier subnet = go (tier_named s.setup.tiers tier)
         let ask = walk_of s number subnet in
         outcome_other (fresh_ground_of s) s.features s.stored ask.barriers.of_tier ask.disjoint (Some number) subnet (reached (fresh_survey s) ask.barriers Any ask.starts)
 
+added_other : (s : State) (o : Option Rule) → IsOther (added_refusal s o)
+unfolding IsOther AreOther
+added_other s None = tt
+added_other s (Some rule) = first_other (adding_refusal (in_force (known s)) rule ∷ too_many s.areas (dirtied s.features (edit.Rule rule)) ∷ [])
+    (adding_other (in_force (known s)) rule, (areas_other s.areas (dirtied s.features (edit.Rule rule)), tt))
+
+rule_other : (s : State) (named : NamedRule) → IsOther (rule_refusal s named)
+unfolding AreOther
+rule_other s named = first_other (numbers_refusal s ∷ naming_refusal s.setup.schema named ∷ added_refusal s (rule_of s named) ∷ [])
+    (numbers_other s, (naming_other s.setup.schema named, (added_other s (rule_of s named), tt)))
+
 unknown_other : (c : Command) → IsOther (unknown c)
 unknown_other c = other_where (not (is_known c)) (refusal.BadRequest place.Do) (λ e. cc)
 
@@ -95,6 +112,7 @@ unfolding AreOther
 known_other s (command.Edit e) = first_other (numbers_refusal s ∷ beside_numbers s e) (numbers_other s, beside_are_other s e)
 known_other s (command.Batch es) = first_other (numbers_refusal s ∷ option_map (λ p. p.1) (first_refused s 0 es) ∷ [])
     (numbers_other s, (refused_other s 0 es, tt))
+known_other s (command.Rule named) = rule_other s named
 known_other s (command.Update tier subnet) = first_other (numbers_refusal s ∷ outcome_refusal (outcome s tier subnet) ∷ []) (numbers_other s, (outcome_is_other s tier subnet, tt))
 known_other s _ = numbers_other s
 

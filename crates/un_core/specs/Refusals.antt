@@ -3,6 +3,7 @@ use Rattle.std.specs.Prelude.{◌≡◌, ◌≢◌, Result, IfErr, ℕ, ◌+◌,
 use Rattle.std.specs.Option.{option_map, option_map_or}
 use Rattle.un_geom.specs.Rectangle.{Rectangle}
 use Rattle.un_defs.specs.declared.edit.Edit.{Edit}
+use Rattle.un_defs.specs.declared.edit.Edit.TheVariants as edit
 use Rattle.un_defs.specs.declared.refusal.Refusal.{Refusal}
 use Rattle.un_defs.specs.declared.refusal.Refusal.TheVariants as refusal
 use Rattle.un_defs.specs.declared.refusal.Limit.TheVariants as limit
@@ -11,10 +12,15 @@ use Rattle.un_ask.specs.declared.reply.Reply.{Reply}
 use Rattle.un_ask.specs.declared.reply.Reply.TheVariants.{Refused}
 use Rattle.un_defs.specs.Refusing.{first_refusal, refused_if}
 use Rattle.un_facts.specs.Refusals.{refusal_of}
+use Rattle.un_facts.specs.Ruling.{rule_refusal as adding_refusal}
+use Rattle.un_facts.specs.Known.{in_force}
+use Rattle.un_resolve.specs.Rules.{naming_refusal}
+use Rattle.un_schema.specs.declared.rule.Rule.{Rule}
+use Rattle.un_ask.specs.declared.rule.NamedRule.{NamedRule}
 use Rattle.un_core.specs.State.{State, known}
 use Rattle.un_subnet.specs.Outcome.{outcome_refusal}
 use Rattle.un_core.specs.Updating.{outcome}
-use Rattle.un_core.specs.Step.{made_at}
+use Rattle.un_core.specs.Step.{made_at, rule_of}
 
 -- an error is the refusal that has its cause, or one of want of memory
 abbrev pub Refuses : {A : Type 0} → Result A Refusal → Option Refusal → Type 0
@@ -62,6 +68,17 @@ batch_refusal s es = first_refusal (numbers_refusal s ∷ option_map (λ p. p.1)
 -- the place of the edit that is refused, which the numbers have not
 abbrev pub refused_place : State → List Edit → Option ℕ
 refused_place s es = option_map_or (λ r. None) (numbers_refusal s) (option_map (λ p. p.0) (first_refused s 0 es))
+
+-- what may be due of a rule whose kinds are known: what the rules in force refuse, and too many areas
+abbrev pub added_refusal : State → Option Rule → Option Refusal
+added_refusal s None = None
+added_refusal s (Some rule) =
+    first_refusal (adding_refusal (in_force (known s)) rule ∷ too_many s.areas (dirtied s.features (edit.Rule rule)) ∷ [])
+
+-- the first refusal of a rule
+abbrev pub rule_refusal : State → NamedRule → Option Refusal
+rule_refusal s named =
+    first_refusal (numbers_refusal s ∷ naming_refusal s.setup.schema named ∷ added_refusal s (rule_of s named) ∷ [])
 
 -- the first refusal of an update
 abbrev pub update_refusal : State → List ℕ → List ℕ → Option Refusal

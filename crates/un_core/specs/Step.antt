@@ -8,6 +8,9 @@ use Rattle.un_defs.specs.Features.{Features}
 use Rattle.un_defs.specs.Change.{Setting, Next, changed, after}
 use Rattle.un_defs.specs.Dirtied.{dirtied}
 use Rattle.un_defs.specs.Laws.{MayBeMade}
+use Rattle.un_schema.specs.declared.rule.Rule.{Rule}
+use Rattle.un_ask.specs.declared.rule.NamedRule.{NamedRule}
+use Rattle.un_resolve.specs.Rules.{numbered}
 use Rattle.un_ask.specs.declared.request.Command.{Command}
 use Rattle.un_ask.specs.declared.request.Command.TheVariants as command
 use Rattle.un_store.specs.Edits.{settled}
@@ -110,20 +113,37 @@ batched s es = record (made_by_all s es) {
   version = s.version + 1;
 }
 
+-- ---- rules
+
+-- a rule with its kinds by number, where the schema has them all
+abbrev pub rule_of : State → NamedRule → Option Rule
+rule_of s named = numbered s.setup.schema named
+
+-- the state once a rule is in force
+abbrev pub ruled : State → Option Rule → State
+ruled s None = record s { version = s.version + 1 }
+ruled s (Some rule) = edited s (edit.Rule rule)
+
+-- the rectangle of the points that it may change, if there are any
+abbrev pub dirtied_by_rule : State → Option Rule → List Rectangle
+dirtied_by_rule s None = []
+dirtied_by_rule s (Some rule) = dirtied s.features (edit.Rule rule)
+
 -- ---- all commands
 
--- The state after an accepted command, whose version is one more. No rule is added yet: no such command is accepted.
+-- the state after an accepted command, whose version is one more
 abbrev pub next_state : State → Command → State
 next_state s (command.Edit e) = edited s e
 next_state s (command.Batch es) = batched s es
 next_state s (command.Validate extent) = validated s extent
 next_state s (command.Update tier subnet) = updated s tier subnet
-next_state s (command.Rule rule) = record s { version = s.version + 1 }
+next_state s (command.Rule named) = ruled s (rule_of s named)
 
 -- the rectangles that it makes dirty, in order
 abbrev pub dirtied_by : State → Command → List Rectangle
 dirtied_by s (command.Edit e) = dirtied s.features e
 dirtied_by s (command.Batch es) = dirtied_by_batch s es
+dirtied_by s (command.Rule named) = dirtied_by_rule s (rule_of s named)
 dirtied_by s _ = []
 
 -- the extent that it validates, if it is a validation

@@ -16,7 +16,7 @@ use crate::net::Net;
 use crate::update::Updated;
 use crate::validate::Validated;
 use std::alloc::{AllocError, Global};
-use un_ask::{Command, EditWord, Reply};
+use un_ask::{Command, EditWord, NamedRule, Reply};
 use un_defs::{Edit, Ids, Refusal};
 use un_geom::Rect;
 use un_machine::{Applied, Entry, Machine};
@@ -80,7 +80,7 @@ fn are_of_features(edits: &[Edit]) -> bool
     edits.iter().all(|edit| is_of_features(edit))
 }
 
-// Whether the command is one that may be asked for yet.
+// Whether the command is one that requests are read as. A rule has a command of its own and is no edit of them.
 fn is_known(command: &Command) -> bool
     ensures { result ≡ is_known command.now }
 {
@@ -88,7 +88,7 @@ fn is_known(command: &Command) -> bool
         Command::Edit(edit) => is_of_features(edit),
         Command::Batch(edits) => are_of_features(edits.as_slice()),
         Command::Validate { .. } | Command::Update { .. } => true,
-        Command::Rule { .. } => false,
+        Command::Rule { .. } => true,
     }
 }
 
@@ -213,6 +213,28 @@ impl Net {
         }
     }
 
+    // A rule.
+    fn apply_rule(&self, alloc: Global, rule: &NamedRule) -> Result<Applied<Net>, AllocError>
+        ensures { IfOk result (λ a. answer_of a ≡ step self.now (command.Rule rule.now)) }
+    {
+        match self.rule(alloc, rule) {
+            Ok(Edited { net, dirtied }) => {
+                let reply = Reply::Ruled {
+                    areas: self.areas_made(&net),
+                    rules: net.rules(),
+                    version: net.version,
+                };
+                Ok(Applied::Done {
+                    next: net,
+                    reply,
+                    mark: Items::new(dirtied),
+                })
+            }
+            Err(Refusal::Memory) => Err(AllocError),
+            Err(refusal) => Ok(refused(self.version, None, refusal)),
+        }
+    }
+
     // A command that is known.
     fn apply_known(&self, alloc: Global, command: &Command) -> Result<Applied<Net>, AllocError>
         requires known { is_known command.now ≡ true }
@@ -223,14 +245,14 @@ impl Net {
             Command::Batch(edits) => self.apply_batch(alloc, edits.as_slice()),
             Command::Validate { extent } => self.apply_validate(alloc, *extent),
             Command::Update { tier, subnet } => self.apply_update(alloc, tier, subnet),
-            Command::Rule { .. } => unreachable!(),
+            Command::Rule { rule } => self.apply_rule(alloc, rule),
         }
     }
 
     /// The step of a command: the next network, the reply and the rectangles that it made dirty, or the reply of a refusal.
     ///
-    /// A command whose word is not taken yet is refused by `BadRequest`. It answers an error only for want of memory, which changes
-    /// nothing.
+    /// An edit or a batch that adds a rule, which no request is read as, is refused by `BadRequest`. It answers an error only for want of
+    /// memory, which changes nothing.
     pub fn step(&self, alloc: Global, command: &Command) -> Result<Applied<Net>, AllocError>
         ensures { IfOk result (λ a. answer_of a ≡ step self.now command.now) }
     {

@@ -6,13 +6,14 @@ ghost use Rattle.un_dirty.specs.Areas.{added};
 ghost use Rattle.un_facts.specs.Refusals.{is_of_features};
 ghost use Rattle.un_core.specs.Step.{MayBeMadeAt, made_at, edited, reply_id, touched_row};
 ghost use Rattle.un_core.specs.Refusals.{Refuses, beside_numbers, edit_refusal, too_many};
-ghost use Rattle.un_core.specs.Making.{AreasGrow, FeaturesGrow, AssociationsGrow};
+ghost use Rattle.un_core.specs.Cover.{IsState};
+ghost use Rattle.un_core.specs.Making.{AreasGrow, FeaturesGrow, AssociationsGrow, with_parts};
 
 use crate::net::Net;
-use std::alloc::Global;
+use std::alloc::{AllocError, Global};
 use un_defs::{Edit, Limit, Refusal};
 use un_dirty::{Dirty, DirtyFault};
-use un_facts::{Made, NextIds};
+use un_facts::{Facts, Made, NextIds};
 use un_geom::Rect;
 
 /// The most dirty areas.
@@ -72,8 +73,8 @@ pub(crate) fn touched_row(edit: &Edit, ids: NextIds) -> Option<u64>
     }
 }
 
-// The areas with some more, of these rectangles.
-fn with_areas(dirty: &Dirty, alloc: Global, rects: &[Rect]) -> Result<Dirty, Refusal>
+/// The areas with some more, of these rectangles.
+pub(crate) fn with_areas(dirty: &Dirty, alloc: Global, rects: &[Rect]) -> Result<Dirty, Refusal>
     requires next { dirty.now.next < 9_000_000_000_100_000 }
     ensures list { IfOk result (λ d. d ≡ added dirty.now rects.now) }
     ensures good { OnOk result (too_many dirty.now.areas rects.now ≡ None) }
@@ -92,6 +93,28 @@ fn with_areas(dirty: &Dirty, alloc: Global, rects: &[Rect]) -> Result<Dirty, Ref
 }
 
 impl Net {
+    // The network with what an edit changes in place of its own.
+    pub(crate) fn with_made(
+        &self,
+        facts: Facts,
+        dirty: Dirty,
+        ids: NextIds,
+    ) -> Result<Net, AllocError>
+        requires { IsState (with_parts self.now facts dirty ids) }
+        ensures { IfOk result (λ net. net ≡ with_parts self.now facts dirty ids) }
+    {
+        let kept = self.kept.share()?;
+        let stored = self.stored.share()?;
+        Ok(Net {
+            facts,
+            kept,
+            dirty,
+            stored,
+            version: self.version,
+            ids,
+        })
+    }
+
     // The network once an edit is made at a moment. The version stays, and the numbers are not looked at.
     pub(crate) fn make(&self, alloc: Global, edit: &Edit, moment: u64) -> Result<Edited, Refusal>
         requires word { is_of_features edit.now ≡ true }
@@ -111,14 +134,7 @@ impl Net {
         let dirty = with_areas(&self.dirty, alloc, &dirtied)?;
         // For the proof alone.
         let _len = dirty.len();
-        let net = Net {
-            facts,
-            kept: self.kept.share()?,
-            dirty,
-            stored: self.stored.share()?,
-            version: self.version,
-            ids: self.ids.after(edit),
-        };
+        let net = self.with_made(facts, dirty, self.ids.after(edit))?;
         Ok(Edited { net, dirtied })
     }
 

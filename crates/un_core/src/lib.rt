@@ -11,6 +11,7 @@ mod kept;
 pub mod laws;
 pub mod net;
 mod points;
+mod rule;
 mod update;
 mod validate;
 

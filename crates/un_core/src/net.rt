@@ -77,6 +77,13 @@ impl Net {
         self.facts.len()
     }
 
+    /// How many rules are in force.
+    pub(crate) fn rules(&self) -> u64
+        ensures { result ≡ length self.now.features.rules }
+    {
+        self.facts.schema().rules().len() as u64
+    }
+
     /// Puts the network that follows in the place of this one.
     pub fn replace(&mut self, next: Net)
         ensures { self.new ≡ next }

@@ -1,12 +1,11 @@
 -- What an accepted edit of a row leaves, told by the row before it and the row after it.
-use Rattle.std.proofs.Common.{◌≡◌, ℕ, suc, ◌+◌, ◌<◌, ◌==◌, ℤ, Bool, true, false, cond, List, [], ◌∷◌, ◌++◌, map, length, All, AllPairs, position, Option, Some, None, IfSome, option_to_list, flat_map, refl, sym, ap, subst, ◌∙◌, inl, inr, arith, eq-eqb, append-nil, if◌then◌else◌}
+use Rattle.std.proofs.Common.{◌≡◌, ℕ, suc, ◌<◌, ◌==◌, ℤ, Bool, true, false, cond, List, [], ◌∷◌, ◌++◌, map, length, All, AllPairs, position, Option, Some, None, IfSome, option_to_list, flat_map, refl, sym, ap, subst, ◌∙◌, inl, inr, arith, eq-eqb, append-nil, if◌then◌else◌}
 use Rattle.std.specs.Prelude.{not, ◌≢◌}
 use Rattle.std.proofs.lemmas.Bool.Decides.{nat_tests}
 use Rattle.std.specs.Option.{option_map, option_map_or}
 use Rattle.std.proofs.lemmas.Option.{slice_get_cases}
 use Rattle.std.proofs.lemmas.List.Quantifiers.{position-Some}
 use Rattle.un_geom.specs.declared.point.Point.{Point}
-use Rattle.un_geom.specs.Rectangle.{Rectangle}
 use Rattle.un_geom.specs.Places.{envelope, point_of}
 use Rattle.un_schema.specs.declared.kind.Kind.{Kind}
 use Rattle.un_schema.specs.Catalog.{kind_at, kind_named, same_text}
@@ -16,7 +15,6 @@ use Rattle.un_defs.specs.declared.row.Row.{Row}
 use Rattle.un_defs.specs.declared.assoc.Assoc.{Assoc}
 use Rattle.un_defs.specs.declared.edit.Edit.{Edit}
 use Rattle.un_defs.specs.declared.edit.Edit.TheVariants as edit
-use Rattle.un_defs.specs.declared.refusal.Refusal.{Refusal}
 use Rattle.un_defs.specs.declared.refusal.Refusal.TheVariants as refusal
 use Rattle.un_defs.specs.Refusing.{refused_if}
 use Rattle.un_defs.specs.Features.{Features, association}
@@ -34,7 +32,7 @@ use Rattle.un_store.proofs.Held.{found_id}
 use Rattle.un_store.proofs.Makings.{rows_alone}
 use Rattle.un_grid.specs.Grids.{IsGridOf, HasRow, HasInPlace, LacksRow, InsertLaw, RemoveLaw, ReplaceLaw, StayLaw, without_row}
 use Rattle.un_assoc.specs.Words.{IsLinkEdit}
-use Rattle.un_facts.specs.Rectangles.{row_of, envelope_of_row, own_rectangles, other_rectangles, ends_of}
+use Rattle.un_facts.specs.Rectangles.{row_of, envelope_of_row, own_rectangles, other_rectangles}
 use Rattle.un_facts.specs.Standers.{HasPorts}
 
 -- ---- rows with an id

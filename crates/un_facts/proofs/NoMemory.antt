@@ -1,14 +1,11 @@
--- No refusal of an edit or of a rule is one of want of memory: that is told apart from all causes.
-use Rattle.std.proofs.Common.{◌≢◌, ℕ, ℤ, ◌==◌, ◌&&◌, ◌||◌, nat_lt, not, length, is_some, is_none, Bool, true, false, List, [], ◌∷◌, Option, None, Some, option_map, option_and_then, nat_le, position}
-use Rattle.std.specs.Prelude.{⊤}
+-- No refusal of an edit is one of want of memory: that is told apart from all causes.
+use Rattle.std.proofs.Common.{◌≢◌, ℕ, ℤ, ◌==◌, ◌&&◌, ◌||◌, nat_lt, nat_le, not, length, position, is_some, is_none, List, [], ◌∷◌, Option, None, Some, option_map, option_and_then}
 use Rattle.std.specs.List.{list_all, list_any}
-use Rattle.std.specs.Option.{IfSome, option_map_or}
+use Rattle.std.specs.Option.{option_map_or}
+use Rattle.un_schema.specs.declared.rule.Rule.{Rule}
 use Rattle.un_schema.specs.declared.kind.Class.{Class}
 use Rattle.un_schema.specs.declared.kind.Kind.{Kind}
 use Rattle.un_schema.specs.Classes.{is_container as may_contain, is_structure}
-use Rattle.un_schema.specs.declared.rule.Rule.{Rule}
-use Rattle.un_schema.specs.Fits.{bad_terminal}
-use Rattle.un_schema.specs.RuleTests.{same_rule}
 use Rattle.un_schema.specs.Catalog.{Catalog, kind_at, kind_named, path_named, place_of}
 use Rattle.un_defs.specs.declared.port.Port.{Port}
 use Rattle.un_defs.specs.declared.row.Row.{Row}
@@ -17,7 +14,7 @@ use Rattle.un_defs.specs.declared.edit.Edit.TheVariants as edit
 use Rattle.un_defs.specs.declared.refusal.Refusal.{Refusal}
 use Rattle.un_defs.specs.declared.refusal.Refusal.TheVariants as refusal
 use Rattle.un_defs.specs.declared.refusal.Limit.TheVariants as limit
-use Rattle.un_defs.specs.Refusing.{first_refusal, refused_if}
+use Rattle.un_defs.specs.Refusing.{refused_if}
 use Rattle.un_defs.proofs.NoMemory.{IsOther, AreOther, first_other, other_where}
 use Rattle.un_defs.specs.Features.{Features, association, is_joint, is_line, has_terminal, row}
 use Rattle.un_defs.specs.Star.{controller_at}
@@ -25,10 +22,12 @@ use Rattle.un_defs.specs.Change.{Setting}
 use Rattle.un_store.specs.Keyed.{row_with}
 use Rattle.un_store.specs.Refusals.{refusal_of as row_refusal, no_kind, of_kind, no_row, of_row, no_line, no_path, no_room, not_plain, is_both, is_device, same_class, other_class, bad_shape, bad_attribute, most_rows}
 use Rattle.un_assoc.specs.Containing.{container_of, contents_count, containers_above}
-use Rattle.un_assoc.specs.Refusals.{refusal_of as link_refusal, no_feature, of_feature, of_both, not_joints, no_terminal, not_containing, not_attaching, not_controlling, may_control, in_itself, in_another, no_room as no_room_to_associate, no_room_in, most_associations, most_contents, most_controllers, no_association, no_tier, is_controlled, no_controller, no_room_to_control, port_at}
+use Rattle.un_assoc.specs.Refusals.{refusal_of as link_refusal, no_feature, of_feature, of_both, not_joints, no_terminal, not_containing, not_attaching, not_controlling, may_control, in_itself, in_another, no_room as no_room_to_associate, no_room_in, most_associations, most_contents, most_controllers, no_tier, is_controlled, no_controller, no_room_to_control, port_at}
+use Rattle.un_schema.specs.Fits.{bad_terminal}
+use Rattle.un_schema.specs.RuleTests.{same_rule}
 use Rattle.un_facts.specs.Known.{Known, setting}
-use Rattle.un_facts.specs.Refusals.{has_associations, has_controllers, standing_refusal, refusal_of}
 use Rattle.un_facts.specs.Ruling.{rule_refusal}
+use Rattle.un_facts.specs.Refusals.{has_associations, has_controllers, standing_refusal, refusal_of}
 
 -- ---- edits
 
@@ -269,14 +268,14 @@ edit_other K e = first_other
 
 -- ---- rules
 
-pub rule_other : (C : Catalog) (rule : Rule) → IsOther (rule_refusal C rule)
+pub adding_other : (C : Catalog) (rule : Rule) → IsOther (rule_refusal C rule)
 unfolding AreOther
-rule_other C rule = first_other
+adding_other C rule = first_other
     (option_map refusal.BadRuleTerminal (bad_terminal C rule) ∷ option_map refusal.RuleExists (position (same_rule rule) C.rules)
     ∷ refused_if (nat_le 4096 (length C.rules)) (refusal.Full limit.Rules) ∷ []) (
-      mapped_other refusal.BadRuleTerminal (bad_terminal C rule) (λ place e. cc),
+      mapped_other refusal.BadRuleTerminal (bad_terminal C rule) (λ n e. cc),
       (
-        mapped_other refusal.RuleExists (position (same_rule rule) C.rules) (λ place e. cc),
+        mapped_other refusal.RuleExists (position (same_rule rule) C.rules) (λ n e. cc),
         (other_where (nat_le 4096 (length C.rules)) (refusal.Full limit.Rules) (λ e. cc), tt),
       ),
     )

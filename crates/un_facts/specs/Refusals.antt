@@ -1,5 +1,5 @@
 -- What is looked at before an edit is made, in order, and the refusal that is due.
-use Rattle.std.specs.Prelude.{ℕ, ◌==◌, Bool, true, false, List, [], ◌∷◌, slice_get, Option, Some, None}
+use Rattle.std.specs.Prelude.{ℕ, ◌==◌, Bool, true, false, [], ◌∷◌, slice_get, Option, None}
 use Rattle.std.specs.List.{list_any}
 use Rattle.std.specs.Option.{option_map}
 use Rattle.un_defs.specs.declared.edit.Edit.{Edit}

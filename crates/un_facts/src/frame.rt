@@ -36,7 +36,8 @@ impl Model for Frame {
 impl Frame {
     /// The rules in force are those of the schema.
     pub(crate) fn new(alloc: Global, schema: Schema, tiers: Tiers) -> Result<Frame, AllocError>
-        ensures { IfOk result (λ frame. frame ≡ record { setup = record { schema = schema; tiers = tiers }; rules = schema.rules }) }
+        ensures { IfOk result (λ frame. frame
+            ≡ record { setup = record { schema = schema; tiers = tiers }; rules = schema.rules }) }
     {
         Ok(Frame {
             setup: Arc::new(alloc, Setup { schema, tiers })?,

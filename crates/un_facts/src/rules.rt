@@ -265,7 +265,8 @@ impl Facts {
     pub fn add_rule(&self, alloc: Global, rule: &Rule) -> Result<Made, Refusal>
         requires { IsTrue (has_classes self.now.setup.schema rule.now) }
         ensures features { IfOk result (λ m. m.facts ≡ ruled self.now rule.now) }
-        ensures dirtied { IfOk result (λ m. m.dirtied.items ≡ dirtied self.now.features (edit.Rule rule.now)) }
+        ensures dirtied { IfOk result (λ m. m.dirtied.items
+            ≡ dirtied self.now.features (edit.Rule rule.now)) }
         ensures good { OnOk result (rule_refusal (in_force self.now) rule.now ≡ None) }
         ensures bad { IfErr result (λ refusal. refusal ≢ Memory
             → rule_refusal (in_force self.now) rule.now ≡ Some refusal) }

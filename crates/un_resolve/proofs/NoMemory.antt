@@ -1,21 +1,26 @@
 -- No refusal that can be told before a walk is one of want of memory: that is told apart from all causes.
-use Rattle.std.proofs.Common.{ℕ, ◌==◌, ◌&&◌, not, length, map, is_some, Bool, List, [], ◌∷◌, Option}
+use Rattle.std.proofs.Common.{ℕ, ◌==◌, ◌&&◌, not, length, map, is_some, Bool, List, [], ◌∷◌, Option, None, Some}
+use Rattle.std.specs.Option.{option_map_or}
 use Rattle.un_conds.specs.Conditions.{Condition}
 use Rattle.un_schema.specs.declared.place.Place.{Place}
 use Rattle.un_schema.specs.declared.place.Place.TheVariants as place
-use Rattle.un_schema.specs.Catalog.{Catalog}
+use Rattle.un_schema.specs.declared.rule.Rule.{Rule}
+use Rattle.un_schema.specs.Catalog.{Catalog, kind_named}
+use Rattle.un_schema.specs.Fits.{has_classes}
 use Rattle.un_tiers.specs.Raw.{resolves}
 use Rattle.un_defs.specs.declared.port.Port.{Port}
 use Rattle.un_defs.specs.declared.refusal.Refusal.{Refusal}
 use Rattle.un_defs.specs.declared.refusal.Refusal.TheVariants as refusal
-use Rattle.un_defs.specs.Refusing.{first_refusal}
+use Rattle.un_defs.specs.Refusing.{first_refusal, refused_if}
 use Rattle.un_defs.specs.Features.{Features, row}
 use Rattle.un_ask.specs.declared.trace.TraceAsk.{TraceAsk}
+use Rattle.un_ask.specs.declared.rule.NamedRule.{NamedRule}
 use Rattle.un_tiers.specs.declared.setup.Setup.{Setup}
 use Rattle.un_defs.proofs.NoMemory.{IsOther, AreOther, first_other, other_where}
 use Rattle.un_resolve.specs.Kinds.{needs_tier, is_subnetwork, is_isolation, lacks, lacking}
 use Rattle.un_resolve.specs.Starts.{given_starts, start_node, no_feature, no_start, tier_of, no_tier, controller_ports, no_subnet, starts_refusal}
 use Rattle.un_resolve.specs.Valves.{isolates, on_valve, valves_refusal}
+use Rattle.un_resolve.specs.Rules.{numbered, no_kind, kinds_of, unknown_kind, wrong_class, naming_refusal}
 use Rattle.un_resolve.specs.Resolved.{condition_of, bad_condition, conditions_refusal, valve_refusal, resolving_refusal}
 
 lacks_other : (needed given : Bool) (p : Place) → IsOther (lacks needed given p)
@@ -33,11 +38,11 @@ lacking_other ask = first_other
       ),
     )
 
--- what is due of each port is due of the list
-all_other : (cause : Port → Option Refusal) → ((q : Port) → IsOther (cause q)) → (ports : List Port) → AreOther (map cause ports)
+-- what is due of each of a list is due of the list
+all_other : {A : Type 0} (cause : A → Option Refusal) → ((x : A) → IsOther (cause x)) → (xs : List A) → AreOther (map cause xs)
 unfolding AreOther
 all_other cause other [] = tt
-all_other cause other (q ∷ ports) = (other q, all_other cause other ports)
+all_other cause other (x ∷ xs) = (other x, all_other cause other xs)
 
 ports_other : (cause : Port → Option Refusal) → ((q : Port) → IsOther (cause q)) → (ports : List Port) → IsOther (first_refusal (map cause ports))
 ports_other cause other ports = first_other (map cause ports) (all_other cause other ports)
@@ -78,3 +83,26 @@ pub resolving_other : (S : Setup) (F : Features) (ask : TraceAsk) → IsOther (r
 unfolding AreOther
 resolving_other S F ask = first_other (lacking ask ∷ starts_refusal S F ask ∷ conditions_refusal S.schema ask ∷ valve_refusal S F ask ∷ [])
     (lacking_other ask, (starts_other S F ask, (conditions_other S.schema ask, (valves_other S.schema F (condition_of S.schema ask.isolators) (given_starts ask), tt))))
+
+-- ---- rules
+
+kind_other : (S : Catalog) (name : List ℕ) → IsOther (no_kind S name)
+unfolding IsOther
+kind_other S name = go (kind_named S name)
+  where
+    go : (o : Option ℕ) → IsOther (option_map_or (λ k. None) o (Some (refusal.NoSuchKind name)))
+    go None = λ e. cc
+    go (Some k) = tt
+
+class_other : (S : Catalog) (named : NamedRule) → IsOther (wrong_class S named)
+unfolding IsOther
+class_other S named = go (numbered S named)
+  where
+    go : (o : Option Rule) → IsOther (option_map_or (λ r. refused_if (not (has_classes S r)) refusal.WrongKind) o None)
+    go None = tt
+    go (Some r) = other_where (not (has_classes S r)) refusal.WrongKind (λ e. cc)
+
+pub naming_other : (S : Catalog) (named : NamedRule) → IsOther (naming_refusal S named)
+unfolding AreOther
+naming_other S named = first_other (unknown_kind S named ∷ wrong_class S named ∷ [])
+    (first_other (map (no_kind S) (kinds_of named)) (all_other (no_kind S) (kind_other S) (kinds_of named)), (class_other S named, tt))

@@ -2,3 +2,4 @@ pub mod Kinds
 pub mod Starts
 pub mod Resolved
 pub mod Valves
+pub mod Rules

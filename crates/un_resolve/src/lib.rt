@@ -1,4 +1,4 @@
-//! Traces with their names looked up.
+//! Traces and rules with their names looked up.
 //!
 //! # What is to be found
 //!
@@ -14,6 +14,8 @@
 //! does this and builds the trace. A start stands at the
 //! place that its port has in the row now, so it may stand at a point whose star is older than the row.
 //!
+//! A rule is given by the names of its kinds; [`rules`] looks them up in the order in which the rule names them.
+//!
 //! # What it costs
 //!
 //! A look-up of a row for each start, and for a subnetwork trace a pass over all controllers, of which there are at most 4,096.
@@ -21,8 +23,10 @@
 
 mod kinds;
 mod names;
+mod rules;
 mod starts;
 pub mod trace;
 mod valves;
 
+pub use rules::resolve_rule;
 pub use trace::resolve;

@@ -3,7 +3,8 @@ use Rattle.std.proofs.Common.{◌≡◌, [], ◌∷◌, Ok, None, refl}
 use Rattle.un_geom.specs.Rectangle.{Rectangle}
 use Rattle.un_schema.specs.declared.place.Place.TheVariants as place
 use Rattle.un_defs.specs.declared.refusal.Refusal.TheVariants as refusal
-use Rattle.un_ask.specs.declared.rule.NamedRule.{NamedRule}
+use Rattle.un_schema.specs.declared.rule.Rule.{Rule}
+use Rattle.un_defs.specs.declared.edit.Edit.TheVariants as edit
 use Rattle.un_ask.specs.declared.request.Command.TheVariants as command
 use Rattle.un_ask.specs.declared.request.Request.TheVariants.{Command}
 use Rattle.un_ask.specs.declared.reply.Reply.TheVariants as reply
@@ -19,10 +20,10 @@ two_validations : (S : Setup) (first second : Rectangle)
     ≡ record { setup = S; commands = command.Validate second ∷ command.Validate first ∷ [] }
 two_validations S first second = refl
 
--- a command that is refused leaves the history as it was
-rule_is_none : (S : Setup) (rule : NamedRule) → history_behind_line (opening S) (Ok (Command (command.Rule rule))) ≡ opening S
+-- a command that is refused leaves the history as it was: a rule is added by a command of its own, and by no edit
+rule_is_none : (S : Setup) (rule : Rule) → history_behind_line (opening S) (Ok (Command (command.Edit (edit.Rule rule)))) ≡ opening S
 rule_is_none S rule = refl
 
-rule_refused : (S : Setup) (rule : NamedRule)
-    → reply_after_line (opening S) (Ok (Command (command.Rule rule))) ≡ reply.Refused (refusal.BadRequest place.Do) None 0
+rule_refused : (S : Setup) (rule : Rule)
+    → reply_after_line (opening S) (Ok (Command (command.Edit (edit.Rule rule)))) ≡ reply.Refused (refusal.BadRequest place.Do) None 0
 rule_refused S rule = refl
