@@ -34,3 +34,4 @@ pub mod Stepping
 pub mod Taken
 pub mod Isolating
 pub mod Crossing
+mod StillFresh

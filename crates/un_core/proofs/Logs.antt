@@ -14,15 +14,17 @@ use Rattle.un_core.specs.Logs.{LogEntry, with_log, LogLaw}
 use Rattle.un_core.proofs.Accepted.{opening_is_after, one_more, versions_count}
 use Rattle.un_core.proofs.Stepping.{by, one_done, not_both}
 
--- a step that is done leads to the next state, and nothing was due
-done : (s : State) (c : Command) (t : State) (reply : Reply × List Rectangle) → step s c ≡ inl (t, reply) → (command_refusal s c ≡ None) × (next_state s c ≡ t)
+-- a step that is done leads to the next state and marks what it made dirty, and nothing was due
+pub done : (s : State) (c : Command) (t : State) (reply : Reply × List Rectangle) → step s c ≡ inl (t, reply)
+    → (command_refusal s c ≡ None) × ((next_state s c ≡ t) × (dirtied_by s c ≡ reply.1))
 done s c t reply is = go (command_refusal s c) refl is
   where
     go : (d : Option Refusal) → command_refusal s c ≡ d
         → by s c d ≡ inl (t, reply)
-        → (command_refusal s c ≡ None) × (next_state s c ≡ t)
+        → (command_refusal s c ≡ None) × ((next_state s c ≡ t) × (dirtied_by s c ≡ reply.1))
     go None none is =
-        (none, ap (λ (pair : State × (Reply × List Rectangle)). pair.0) (one_done (by s c None) (next_state s c, (accepted s c, dirtied_by s c)) (t, reply) refl is))
+        let same = one_done (by s c None) (next_state s c, (accepted s c, dirtied_by s c)) (t, reply) refl is in
+        (none, (ap (λ (pair : State × (Reply × List Rectangle)). pair.0) same, ap (λ (pair : State × (Reply × List Rectangle)). pair.1.1) same))
     go (Some r) cause is = absurd (not_both (by s c (Some r)) (t, reply) (refusal_reply s c r) is refl)
 
 -- from the state after a history, a log leads to the one after that history with its commands
@@ -30,7 +32,7 @@ log_follows : (S : Setup) (history : List Command) (s : State) (log : List LogEn
 log_follows S history s [] t after leads = subst (IsAfter S history) leads after
 log_follows S history s (e ∷ log) t after leads =
     let one = done s e.cmd leads.0 (e.reply, e.mark) leads.1 in
-    log_follows S (e.cmd ∷ history) leads.0 log t (subst (IsAfter S (e.cmd ∷ history)) one.1 (one_more S history s e.cmd after one.0)) leads.2
+    log_follows S (e.cmd ∷ history) leads.0 log t (subst (IsAfter S (e.cmd ∷ history)) one.1.0 (one_more S history s e.cmd after one.0)) leads.2
 
 count : (history : List Command) (log : List LogEntry) → length (with_log history log) ≡ length history + length log
 count history [] = omega arith

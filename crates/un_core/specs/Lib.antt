@@ -20,3 +20,4 @@ pub mod HistoryAnswers
 pub mod Logs
 pub mod NoMemory
 pub mod Requests
+pub mod Preparing

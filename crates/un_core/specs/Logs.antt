@@ -1,5 +1,5 @@
 -- The log of a network, which is a history that is written down in the order of its commands.
-use Rattle.std.specs.Prelude.{◌≡◌, List, [], ◌∷◌, length, ⊤}
+use Rattle.std.specs.Prelude.{◌≡◌, List, [], ◌∷◌, length}
 use Rattle.un_geom.specs.Rectangle.{Rectangle}
 use Rattle.un_schema.specs.Sound.{IsCatalog}
 use Rattle.un_machine.specs.declared.Entry.{Entry}
@@ -7,13 +7,14 @@ use Rattle.un_machine.specs.Logs.{Leads}
 use Rattle.un_ask.specs.declared.request.Command.{Command}
 use Rattle.un_ask.specs.declared.reply.Reply.{Reply}
 use Rattle.un_tiers.specs.declared.setup.Setup.{Setup}
+use Rattle.un_core.specs.declared.prepared.Prepared.{Prepared}
 use Rattle.un_core.specs.State.{State, opening}
 use Rattle.un_core.specs.Accepted.{IsAfter}
 use Rattle.un_core.specs.Commands.{step}
 
--- an entry of the log; a network takes no hints
+-- an entry of the log
 abbrev pub LogEntry : Type 0
-LogEntry = Entry State Command Reply ⊤ (List Rectangle)
+LogEntry = Entry State Command Reply Prepared (List Rectangle)
 
 -- a history, and then the commands of a log
 abbrev pub with_log : List Command → List LogEntry → List Command

@@ -1,5 +1,5 @@
 //! Commands.
-ghost use Rattle.std.specs.Prelude.{◌≡◌, ◌+◌, ◌-◌, ◌≤◌, length, true, Some, None, IfOk};
+ghost use Rattle.std.specs.Prelude.{◌≡◌, ◌-◌, ◌≤◌, length, true, IfOk, IfSome};
 ghost use Rattle.std.specs.List.{list_all};
 ghost use Rattle.std.proofs.Common.{inr};
 ghost use Rattle.un_schema.specs.declared.place.Place.TheVariants as place;
@@ -8,11 +8,13 @@ ghost use Rattle.un_ask.specs.declared.request.Command.TheVariants as command;
 ghost use Rattle.un_ask.specs.declared.reply.Reply.TheVariants as reply;
 ghost use Rattle.un_facts.specs.Refusals.{is_of_features};
 ghost use Rattle.un_core.specs.Commands.{is_known, word_of, first_and_count, step};
-ghost use Rattle.un_machine.specs.Logs.{answer_of};
+ghost use Rattle.un_machine.specs.Logs.{answer_of, Since};
+ghost use Rattle.un_core.specs.Preparing.{IsPreparedAt};
 
 use crate::batch::{BatchFault, Batched};
 use crate::edit::{Edited, reply_id};
 use crate::net::Net;
+use crate::prepared::Prepared;
 use crate::update::Updated;
 use crate::validate::Validated;
 use std::alloc::{AllocError, Global};
@@ -166,10 +168,17 @@ impl Net {
     }
 
     // A validation.
-    fn apply_validate(&self, alloc: Global, extent: Rect) -> Result<Applied<Net>, AllocError>
+    fn apply_validate(
+        &self,
+        alloc: Global,
+        extent: Rect,
+        hint: Option<&Prepared>,
+        since: &[Entry<Net>],
+    ) -> Result<Applied<Net>, AllocError>
+        requires { IfSome hint (λ h. Since step IsPreparedAt h.now since.now self.now) }
         ensures { IfOk result (λ a. answer_of a ≡ step self.now (command.Validate extent)) }
     {
-        match self.validate(alloc, extent) {
+        match self.validate(alloc, extent, hint, since) {
             Ok(
                 Validated {
                     net,
@@ -236,14 +245,21 @@ impl Net {
     }
 
     // A command that is known.
-    fn apply_known(&self, alloc: Global, command: &Command) -> Result<Applied<Net>, AllocError>
+    fn apply_known(
+        &self,
+        alloc: Global,
+        command: &Command,
+        hint: Option<&Prepared>,
+        since: &[Entry<Net>],
+    ) -> Result<Applied<Net>, AllocError>
         requires known { is_known command.now ≡ true }
+        requires prepared { IfSome hint (λ h. Since step IsPreparedAt h.now since.now self.now) }
         ensures { IfOk result (λ a. answer_of a ≡ step self.now command.now) }
     {
         match command {
             Command::Edit(edit) => self.apply_edit(alloc, edit),
             Command::Batch(edits) => self.apply_batch(alloc, edits.as_slice()),
-            Command::Validate { extent } => self.apply_validate(alloc, *extent),
+            Command::Validate { extent } => self.apply_validate(alloc, *extent, hint, since),
             Command::Update { tier, subnet } => self.apply_update(alloc, tier, subnet),
             Command::Rule { rule } => self.apply_rule(alloc, rule),
         }
@@ -256,44 +272,60 @@ impl Net {
     pub fn step(&self, alloc: Global, command: &Command) -> Result<Applied<Net>, AllocError>
         ensures { IfOk result (λ a. answer_of a ≡ step self.now command.now) }
     {
+        self.step_prepared(alloc, command, None, &[])
+    }
+
+    // The same. What was prepared of the command changes nothing of it.
+    fn step_prepared(
+        &self,
+        alloc: Global,
+        command: &Command,
+        hint: Option<&Prepared>,
+        since: &[Entry<Net>],
+    ) -> Result<Applied<Net>, AllocError>
+        requires { IfSome hint (λ h. Since step IsPreparedAt h.now since.now self.now) }
+        ensures { IfOk result (λ a. answer_of a ≡ step self.now command.now) }
+    {
         if is_known(command) {
-            self.apply_known(alloc, command)
+            self.apply_known(alloc, command, hint, since)
         } else {
             Ok(refused(self.version, None, Refusal::BadRequest { place: Place::Do }))
         }
     }
 }
 
-/// A network steps by commands. It takes no hints, and the mark of a command is the rectangles that it made dirty, in order.
+/// A network steps by commands. A hint has stars that were built in advance for a validation, and the mark of a command is the rectangles that
+/// it made dirty, in order.
 impl Machine for Net {
     ghost use Rattle.un_core.specs.Commands.{step};
+    ghost use Rattle.un_core.specs.Preparing.{IsPreparedAt};
 
     type Cmd = Command;
 
     type Reply = Reply;
 
-    type Hint = ();
+    type Hint = Prepared;
 
     type Mark = Items<Rect>;
 
     ghost step = { step };
 
-    ghost prepared = { λ h s. Unit {0} };
+    ghost prepared = { IsPreparedAt };
 
-    ghost place = { λ h. 0 };
+    ghost place = { λ h. h.version };
 
     fn apply(
         &self,
         alloc: Global,
         cmd: &Command,
-        _hint: Option<&()>,
-        _since: &[Entry<Net>],
+        hint: Option<&Prepared>,
+        since: &[Entry<Net>],
     ) -> Result<Applied<Net>, AllocError> {
-        self.step(alloc, cmd)
+        self.step_prepared(alloc, cmd, hint, since)
     }
 
-    fn prepared_at(_hint: &()) -> u64 {
-        0
+    fn prepared_at(hint: &Prepared) -> u64 {
+        hint.version
     }
 
     fn copy_reply(alloc: Global, reply: &Reply) -> Result<Reply, AllocError> {

@@ -11,9 +11,11 @@ mod kept;
 pub mod laws;
 pub mod net;
 mod points;
+pub mod prepared;
 mod rule;
 mod update;
 mod validate;
 
 pub use net::Net;
+pub use prepared::Prepared;
 pub use un_tiers::Setup;

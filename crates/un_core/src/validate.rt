@@ -1,5 +1,5 @@
 //! Validations.
-ghost use Rattle.std.specs.Prelude.{◌≡◌, ◌+◌, ◌≤◌, map, length, Some, None, IfOk, OnOk, IfErr};
+ghost use Rattle.std.specs.Prelude.{◌≡◌, ◌+◌, map, length, None, IfOk, OnOk, IfErr, IfSome};
 ghost use Rattle.std.specs.List.{sum_by};
 ghost use Rattle.un_defs.specs.declared.refusal.Refusal.TheVariants.{Memory};
 ghost use Rattle.std.specs.Arc.{arc_value};
@@ -7,18 +7,23 @@ ghost use Rattle.un_defs.specs.Star.{star};
 ghost use Rattle.un_index.specs.Kept.{stars_of};
 ghost use Rattle.un_subnet.specs.Changes.{changes_at};
 ghost use Rattle.un_subnet.specs.Stored.{marked};
+ghost use Rattle.un_machine.specs.Logs.{Since};
 ghost use Rattle.un_core.specs.State.{fresh_star};
+ghost use Rattle.un_core.specs.Commands.{step};
+ghost use Rattle.un_core.specs.Preparing.{IsPreparedAt};
 ghost use Rattle.un_core.specs.Validation.{validated, met, errors_under, AreRebuilt, IsKept};
 ghost use Rattle.un_core.specs.Refusals.{Refuses, numbers_refusal};
 
 use crate::kept::Kept;
 use crate::net::Net;
+use crate::prepared::Prepared;
 use std::alloc::{AllocError, Global};
 use std::sync::Arc;
 use un_defs::{Refusal, Star};
 use un_facts::Facts;
 use un_geom::{Point, Rect};
 use un_index::Index;
+use un_machine::Entry;
 use un_star::build;
 use un_subnet::{StoredRows, star_changes};
 
@@ -48,8 +53,8 @@ fn with_errors(errors: u64, star: &Star) -> Result<u64, Refusal>
     }
 }
 
-// The star of the features at a point.
-fn star_at(alloc: Global, facts: &Facts, p: Point) -> Result<Arc<Star>, AllocError>
+/// The star of the features at a point.
+pub(crate) fn star_at(alloc: Global, facts: &Facts, p: Point) -> Result<Arc<Star>, AllocError>
     ensures { IfOk result (λ s. arc_value s ≡ star facts.now.setup.schema facts.now.features p) }
 {
     Ok(Arc::new(alloc, build(alloc, &facts.live(), p)?)?)
@@ -57,7 +62,14 @@ fn star_at(alloc: Global, facts: &Facts, p: Point) -> Result<Arc<Star>, AllocErr
 
 impl Net {
     // What is kept once these points have the stars of all features.
-    fn rebuilt(&self, alloc: Global, points: &[Point]) -> Result<Rebuilt, Refusal>
+    fn rebuilt(
+        &self,
+        alloc: Global,
+        points: &[Point],
+        hint: Option<&Prepared>,
+        since: &[Entry<Net>],
+    ) -> Result<Rebuilt, Refusal>
+        requires { IfSome hint (λ h. Since step IsPreparedAt h.now since.now self.now) }
         ensures stars { IfOk result (λ r. AreRebuilt self.now points.now r.kept) }
         ensures kept { IfOk result (λ r. IsKept r.kept) }
         ensures errors { IfOk result (λ r. r.errors
@@ -67,7 +79,7 @@ impl Net {
         let mut kept = self.kept.share()?;
         let mut errors = 0;
         for point in points {
-            let star = star_at(alloc, &self.facts, *point)?;
+            let star = self.star_under(alloc, hint, since, *point)?;
             errors = with_errors(errors, &star)?;
             kept.put(alloc, *point, star)?;
         }
@@ -102,8 +114,15 @@ impl Net {
     /// The network once the topology is fresh under each dirty area that meets the extent, and these areas are cleared. Each stored
     /// subnetwork that a star concerns which changes is dirty.
     ///
-    /// It is refused where the numbers are used up.
-    pub(crate) fn validate(&self, alloc: Global, extent: Rect) -> Result<Validated, Refusal>
+    /// It is refused where the numbers are used up. What was prepared of it changes nothing of the result.
+    pub(crate) fn validate(
+        &self,
+        alloc: Global,
+        extent: Rect,
+        hint: Option<&Prepared>,
+        since: &[Entry<Net>],
+    ) -> Result<Validated, Refusal>
+        requires { IfSome hint (λ h. Since step IsPreparedAt h.now since.now self.now) }
         ensures state { IfOk result (λ v. v.net ≡ validated self.now extent) }
         ensures cleared { IfOk result (λ v. v.cleared ≡ length (met extent self.now.areas)) }
         ensures errors { IfOk result (λ v. v.errors ≡ errors_under self.now (met extent self.now.areas)) }
@@ -113,7 +132,7 @@ impl Net {
         self.check_numbers()?;
         let areas = self.dirty.meeting(alloc, extent)?;
         let points = self.points_under(alloc, &areas)?;
-        let rebuilt = self.rebuilt(alloc, &points)?;
+        let rebuilt = self.rebuilt(alloc, &points, hint, since)?;
         let stored = self.marked(alloc, &rebuilt.kept, &points)?;
         Ok(Validated {
             net: Net {

@@ -8,6 +8,7 @@ use Rattle.un_publish.specs.Models.{SessionModel}
 use Rattle.un_ask.specs.declared.request.Command.{Command}
 use Rattle.un_ask.specs.declared.query.Query.{Query}
 use Rattle.un_ask.specs.declared.reply.Reply.{Reply}
+use Rattle.un_core.specs.declared.prepared.Prepared.{Prepared}
 use Rattle.un_core.specs.State.{State, opening}
 use Rattle.un_core.specs.Commands.{step}
 use Rattle.un_core.specs.Answers.{answer}
@@ -33,7 +34,7 @@ answer_of s q = reply_page (answer s q)
 
 -- a session of a network
 abbrev pub NetSession : Type 0
-NetSession = SessionModel State Command Reply ⊤ (List Rectangle)
+NetSession = SessionModel State Command Reply Prepared (List Rectangle)
 
 -- a request of a link and its response
 abbrev pub NetExchange : Type 0

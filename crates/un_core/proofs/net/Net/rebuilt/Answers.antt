@@ -4,7 +4,7 @@ use Rattle.std.specs.List.{sum_by}
 use Rattle.std.proofs.lemmas.List.{take_more}
 use Rattle.un_geom.specs.declared.point.Point.{Point}
 use Rattle.un_defs.specs.declared.star.Star.{Star}
-use Rattle.un_core.specs.State.{State, fresh_star}
+use Rattle.un_core.specs.State.{fresh_star}
 use Rattle.un_core.specs.Validation.{AreRebuilt}
 use Rattle.un_core.proofs.Rebuilt.{rebuilt_more, errors_more, kept_is}
 use Rattle.un_core.proofs.net.Net.rebuilt.Goals as goal
@@ -17,7 +17,7 @@ loop-point-preserved c =
     let before = take k c.args.points.now in
     let more = take_more c.args.points.now k (record { x = pos 0; y = pos 0; z = pos 0 }) c.loop-point-test.true in
     let built : Star = arc_value c.in_ok-star.star in
-    let is : built ≡ fresh_star s p = c.in_ok-star.ensures ∙ ap (λ (t : State). fresh_star t p) c.self.view_is in (
+    let is : built ≡ fresh_star s p = c.in_ok-star.ensures in (
       subst (λ ps. AreRebuilt s ps c.put.new.self) (sym more)
           (rebuilt_more s before p c.loop-point.kept c.put.new.self built c.loop-point.invariant.0 is c.in_ok-put.ensures.stars),
       errors_more s before p c.loop-point.kept c.put.new.self built c.loop-point.errors c.in_ok-errors.errors c.loop-point.invariant.1 is
