@@ -3,13 +3,15 @@
 //! The network ([`Listed`]) is made of plans of its features. The ports at its points are found by the grid that the state uses too.
 #![tactic(auto)]
 
-#[cfg(test)]
 mod listed;
 #[cfg(test)]
+mod many;
 mod parts;
-#[cfg(test)]
 mod plan;
 #[cfg(test)]
 mod schemas;
 #[cfg(test)]
 mod tests;
+
+pub use listed::Listed;
+pub use plan::{NotSound, Pair, Plan};

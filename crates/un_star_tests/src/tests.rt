@@ -40,7 +40,7 @@ fn node(feature: u64, number: u8, at: Point) -> Node {
     }
 }
 
-fn east(x: i32) -> Point {
+pub(crate) fn east(x: i32) -> Point {
     Point { x, y: 0, z: 0 }
 }
 
@@ -84,7 +84,7 @@ fn has_ports(star: &Star, want: &[Port]) -> bool {
     true
 }
 
-fn are_named(ties: &[Tie], want: &[LinkName]) -> bool {
+pub(crate) fn are_named(ties: &[Tie], want: &[LinkName]) -> bool {
     if ties.len() != want.len() {
         return false;
     }
@@ -121,7 +121,7 @@ fn error(kind: ErrorKind, feature: u64, number: u8, assoc: u64) -> TopoError {
     }
 }
 
-fn segment(line: u64, index: u8) -> LinkName {
+pub(crate) fn segment(line: u64, index: u8) -> LinkName {
     LinkName::Seg { line, index }
 }
 
