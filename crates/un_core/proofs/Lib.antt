@@ -23,6 +23,7 @@ pub mod Rebuilt
 pub mod Applying
 pub mod Accepted
 pub mod Marking
+pub mod MarksOf
 pub mod Clearing
 pub mod HistoryAnswers
 pub mod Named

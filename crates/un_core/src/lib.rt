@@ -9,6 +9,7 @@ mod feature;
 pub mod histories;
 mod kept;
 pub mod laws;
+mod marks;
 pub mod net;
 mod points;
 pub mod prepared;

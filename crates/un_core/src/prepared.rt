@@ -19,16 +19,16 @@
 //!
 //! # What it costs
 //!
-//! At the commit, a look-up for each point and a look at each rectangle since then. The prepared stars are shared, and none is copied.
+//! At the commit, the rectangles since then are sorted by place once, which costs a part of what the commands that made them did. Each point
+//! takes a look-up among them and one among the prepared stars, which are shared: none is copied.
 ghost use Rattle.std.specs.Prelude.{◌≡◌, map, IfOk, OnOk, IfSome};
-ghost use Rattle.std.specs.List.{list_any};
 ghost use Rattle.std.specs.Arc.{arc_value};
-ghost use Rattle.un_geom.specs.Places.{covers};
 ghost use Rattle.un_machine.specs.Logs.{Since};
 ghost use Rattle.un_core.specs.State.{State, fresh_star};
 ghost use Rattle.un_core.specs.Commands.{step};
-ghost use Rattle.un_core.specs.Preparing.{AreFresh, IsPreparedAt, is_touched};
+ghost use Rattle.un_core.specs.Preparing.{AreFresh, AreUsable, IsPreparedAt};
 
+use crate::marks::Marks;
 use crate::net::Net;
 use crate::validate::star_at;
 use std::alloc::{AllocError, Global};
@@ -49,18 +49,24 @@ pub struct Prepared {
     pub(crate) stars: BTreeMap<Point, Arc<Star>>,
 }
 
-// Whether one of the rectangles covers the point.
-fn is_under(rects: &[Rect], p: Point) -> bool
-    ensures { result ≡ list_any (λ r. covers r p) rects.now }
-{
-    rects.iter().any(|rect| rect.covers(p))
+/// What was prepared and still holds: the stars at the points that no command since has made dirty.
+#[derive(Drop)]
+pub(crate) struct Usable<'a> {
+    stars: &'a BTreeMap<Point, Arc<Star>>,
+    marks: Marks,
 }
 
-// Whether one of the commands made the point dirty.
-fn is_touched(since: &[Entry<Net>], p: Point) -> bool
-    ensures { result ≡ is_touched since.now p }
-{
-    since.iter().any(|entry| is_under(entry.mark.as_slice(), p))
+impl<'a> Usable<'a> {
+    /// The star of a point, if it was prepared and still holds.
+    fn star(&self, p: Point) -> Option<&'a Arc<Star>>
+        ensures { (s : State) → AreUsable s self.now → IfSome result (λ star. arc_value star.now ≡ fresh_star s p) }
+    {
+        if self.marks.miss(p) {
+            self.stars.get(&p)
+        } else {
+            None
+        }
+    }
 }
 
 // Puts the star of a point among those of other points.
@@ -130,37 +136,40 @@ impl Net {
         })
     }
 
-    // The star that was prepared for a point, if there is one that is still that of the features.
-    fn prepared_star<'a>(
+    /// What still holds of what was prepared.
+    pub(crate) fn usable<'a>(
         &self,
+        alloc: Global,
         hint: Option<&'a Prepared>,
         since: &[Entry<Net>],
-        p: Point,
-    ) -> Option<&'a Arc<Star>>
+    ) -> Result<Option<Usable<'a>>, AllocError>
         requires { IfSome hint (λ h. Since step IsPreparedAt h.now since.now self.now) }
-        ensures { IfSome result (λ star. arc_value star.now ≡ fresh_star self.now p) }
+        ensures { IfOk result (λ usable. IfSome usable (AreUsable self.now)) }
     {
-        let prepared = hint?;
-        if is_touched(since, p) {
-            return None;
-        }
-        prepared.stars.get(&p)
+        let Some(prepared) = hint else {
+            return Ok(None);
+        };
+        Ok(Some(Usable {
+            stars: &prepared.stars,
+            marks: Marks::of(alloc, since)?,
+        }))
     }
 
     /// The star of the features at a point, prepared or built now.
     pub(crate) fn star_under(
         &self,
         alloc: Global,
-        hint: Option<&Prepared>,
-        since: &[Entry<Net>],
+        usable: Option<&Usable>,
         p: Point,
     ) -> Result<Arc<Star>, AllocError>
-        requires { IfSome hint (λ h. Since step IsPreparedAt h.now since.now self.now) }
+        requires { IfSome usable (λ u. AreUsable self.now u.now) }
         ensures { IfOk result (λ star. arc_value star ≡ fresh_star self.now p) }
     {
-        match self.prepared_star(hint, since, p) {
-            Some(star) => Arc::try_clone(star),
-            None => star_at(alloc, &self.facts, p),
+        if let Some(usable) = usable
+            && let Some(star) = usable.star(p)
+        {
+            return Arc::try_clone(star);
         }
+        star_at(alloc, &self.facts, p)
     }
 }

@@ -10,13 +10,13 @@ ghost use Rattle.un_subnet.specs.Stored.{marked};
 ghost use Rattle.un_machine.specs.Logs.{Since};
 ghost use Rattle.un_core.specs.State.{fresh_star};
 ghost use Rattle.un_core.specs.Commands.{step};
-ghost use Rattle.un_core.specs.Preparing.{IsPreparedAt};
+ghost use Rattle.un_core.specs.Preparing.{AreUsable, IsPreparedAt};
 ghost use Rattle.un_core.specs.Validation.{validated, met, errors_under, AreRebuilt, IsKept};
 ghost use Rattle.un_core.specs.Refusals.{Refuses, numbers_refusal};
 
 use crate::kept::Kept;
 use crate::net::Net;
-use crate::prepared::Prepared;
+use crate::prepared::{Prepared, Usable};
 use std::alloc::{AllocError, Global};
 use std::sync::Arc;
 use un_defs::{Refusal, Star};
@@ -66,10 +66,9 @@ impl Net {
         &self,
         alloc: Global,
         points: &[Point],
-        hint: Option<&Prepared>,
-        since: &[Entry<Net>],
+        usable: Option<&Usable>,
     ) -> Result<Rebuilt, Refusal>
-        requires { IfSome hint (λ h. Since step IsPreparedAt h.now since.now self.now) }
+        requires { IfSome usable (λ u. AreUsable self.now u.now) }
         ensures stars { IfOk result (λ r. AreRebuilt self.now points.now r.kept) }
         ensures kept { IfOk result (λ r. IsKept r.kept) }
         ensures errors { IfOk result (λ r. r.errors
@@ -79,7 +78,7 @@ impl Net {
         let mut kept = self.kept.share()?;
         let mut errors = 0;
         for point in points {
-            let star = self.star_under(alloc, hint, since, *point)?;
+            let star = self.star_under(alloc, usable, *point)?;
             errors = with_errors(errors, &star)?;
             kept.put(alloc, *point, star)?;
         }
@@ -132,7 +131,8 @@ impl Net {
         self.check_numbers()?;
         let areas = self.dirty.meeting(alloc, extent)?;
         let points = self.points_under(alloc, &areas)?;
-        let rebuilt = self.rebuilt(alloc, &points, hint, since)?;
+        let usable = self.usable(alloc, hint, since)?;
+        let rebuilt = self.rebuilt(alloc, &points, usable.as_ref())?;
         let stored = self.marked(alloc, &rebuilt.kept, &points)?;
         Ok(Validated {
             net: Net {
