@@ -77,6 +77,6 @@ module _ (G H : Ground) where
       ap (λ r. Traced r 0)
       (result_agrees ask (nodes_in_result G ask ns) (agree_within _ ns h) ∙ ap (result_of H ask) listed_nodes)
 
-  -- what is told where no dirt matters
+  -- the results where no dirt matters
   pub reply_agrees : (ask : TypedAsk) (ns : List Node) → Agree ns → clean_reply G ask ns ≡ clean_reply H ask ns
   reply_agrees ask ns h = λ i. if lists_controllers ask.kind then controllers_agree ask ns h i else result_reply_agrees ask ns h i

@@ -23,7 +23,7 @@ use Rattle.un_core.specs.State.{State, kept_ground, fresh_ground_of}
 use Rattle.un_core.specs.Cover.{IsState}
 use Rattle.un_core.specs.Walked.{Survey, reached, kept_survey, fresh_survey}
 use Rattle.un_core.specs.Answers.{reached_from}
-use Rattle.un_core.specs.Updating.{walk_of, outcome_in, outcome, done, IsOfWalk, row_told}
+use Rattle.un_core.specs.Updating.{walk_of, outcome_in, outcome, done, IsOfWalk, row_in_reply}
 use Rattle.un_core.specs.Refusals.{Refuses}
 use Rattle.un_tiers.specs.Lists.{tier_named}
 use Rattle.un_defs.specs.declared.walk.Mode.TheVariants.{Any}
@@ -67,24 +67,24 @@ module _ (G : Ground) (ask : TypedAsk) (nodes : List Node) where
       go None = tt
       go (Some r) = tt
 
-  pub row_where : IfOk (row_told (update_reply G ask nodes)) (λ row. row ≡ row_of ask nodes)
+  pub row_where : IfOk (row_in_reply (update_reply G ask nodes)) (λ row. row ≡ row_of ask nodes)
   row_where = go (walk_refusal G ask nodes)
     where
-      go : (d : Option Refusal) → IfOk (row_told (by d)) (λ row. row ≡ row_of ask nodes)
+      go : (d : Option Refusal) → IfOk (row_in_reply (by d)) (λ row. row ≡ row_of ask nodes)
       go None = refl
       go (Some r) = tt
 
-  pub none_where : OnOk (row_told (update_reply G ask nodes)) (walk_refusal G ask nodes ≡ None)
+  pub none_where : OnOk (row_in_reply (update_reply G ask nodes)) (walk_refusal G ask nodes ≡ None)
   none_where = go (walk_refusal G ask nodes) refl
     where
-      go : (d : Option Refusal) → walk_refusal G ask nodes ≡ d → OnOk (row_told (by d)) (walk_refusal G ask nodes ≡ None)
+      go : (d : Option Refusal) → walk_refusal G ask nodes ≡ d → OnOk (row_in_reply (by d)) (walk_refusal G ask nodes ≡ None)
       go None none = none
       go (Some r) cause = tt
 
-  pub refused_where : Refuses (row_told (update_reply G ask nodes)) (walk_refusal G ask nodes)
+  pub refused_where : Refuses (row_in_reply (update_reply G ask nodes)) (walk_refusal G ask nodes)
   refused_where = go (walk_refusal G ask nodes) refl
     where
-      go : (d : Option Refusal) → walk_refusal G ask nodes ≡ d → Refuses (row_told (by d)) (walk_refusal G ask nodes)
+      go : (d : Option Refusal) → walk_refusal G ask nodes ≡ d → Refuses (row_in_reply (by d)) (walk_refusal G ask nodes)
       go None none = tt
       go (Some r) cause = λ other. cause
 

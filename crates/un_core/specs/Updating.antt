@@ -41,16 +41,17 @@ abbrev pub done : Option StoredSubnet → Outcome
 done None = removes
 done (Some row) = stores row
 
--- the reply to a walk tells of a row or of a refusal
+-- the reply to a walk has a row or a refusal
 abbrev pub IsOfWalk : Reply → Type 0
 IsOfWalk (reply.Updated (Some row) version) = ⊤
 IsOfWalk (reply.Refused r edit version) = ⊤
 IsOfWalk _ = ⊥
 
-abbrev pub row_told : Reply → Result StoredSubnet Refusal
-row_told (reply.Updated (Some row) version) = Ok row
-row_told (reply.Refused r edit version) = Err r
-row_told _ = Err Memory
+-- the row in such a reply, or the refusal
+abbrev pub row_in_reply : Reply → Result StoredSubnet Refusal
+row_in_reply (reply.Updated (Some row) version) = Ok row
+row_in_reply (reply.Refused r edit version) = Err r
+row_in_reply _ = Err Memory
 
 -- the state after an update: the row of the subnetwork is stored, or gone
 abbrev pub updated : State → List ℕ → List ℕ → State

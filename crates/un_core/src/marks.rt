@@ -9,7 +9,7 @@ use un_dirty::{Dirty, DirtyFault};
 use un_geom::{Point, Rect};
 use un_machine::Entry;
 
-/// The most rectangles that are told apart: as many as a network has dirty areas.
+/// The most rectangles that are kept: as many as a network has dirty areas.
 const MOST_RECTANGLES: usize = 65_536;
 
 /// The rectangles that commands made dirty, found by place.

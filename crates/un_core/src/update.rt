@@ -13,7 +13,7 @@ ghost use Rattle.un_core.specs.State.{kept_ground};
 ghost use Rattle.un_core.specs.Walked.{kept_survey, reached};
 ghost use Rattle.un_subnet.specs.Stored.{under, with_row};
 ghost use Rattle.un_core.specs.Answers.{row_reply, subnet_reply};
-ghost use Rattle.un_core.specs.Updating.{walk_of, outcome_in, done, IsOfWalk, row_told, updated, updated_reply};
+ghost use Rattle.un_core.specs.Updating.{walk_of, outcome_in, done, IsOfWalk, row_in_reply, updated, updated_reply};
 ghost use Rattle.un_core.specs.Refusals.{Refuses, update_refusal};
 
 use crate::net::Net;
@@ -55,10 +55,10 @@ fn is_disjoint(tiers: &Tiers, tier: u8) -> bool
     tiers.disjoint(tier)
 }
 
-// The row of which the reply to a walk tells, or its refusal.
-fn row_told(reply: Reply) -> Result<StoredSubnet, Refusal>
+// The row in the reply to a walk, or the refusal.
+fn row_in_reply(reply: Reply) -> Result<StoredSubnet, Refusal>
     requires { IsOfWalk reply }
-    ensures { result ≡ row_told reply }
+    ensures { result ≡ row_in_reply reply }
 {
     match reply {
         Reply::Updated { row: Some(row), .. } => Ok(row),
@@ -90,8 +90,8 @@ fn at_version(row: Option<StoredSubnet>, version: u64) -> Option<StoredSubnet>
     Some(row)
 }
 
-// The reply to an update, and a copy of the row of which it tells.
-fn told(
+// The reply to an update, with a copy of its row beside it.
+fn reply_and_row(
     alloc: Global,
     row: Option<StoredSubnet>,
     version: u64,
@@ -138,7 +138,7 @@ impl Net {
         let mut steps = Steps::<Net>::new();
         let kept = self.kept();
         let reply = update(alloc, &kept, ask, &mut steps)?;
-        row_told(reply)
+        row_in_reply(reply)
     }
 
     // What an update with this walk stores, or nothing where the stored row alone is left of the subnetwork.
@@ -216,7 +216,7 @@ impl Net {
             ≡ record self.now { stored = with_row self.now.stored tier subnet.now row; version = version }) }
         ensures reply { IfOk result (λ u. u.reply ≡ reply.Updated row version) }
     {
-        let (reply, row) = told(alloc, row, version)?;
+        let (reply, row) = reply_and_row(alloc, row, version)?;
         let stored = self.stored.with(alloc, tier, subnet, row)?;
         let net = self.with_stored(stored, version)?;
         Ok(Updated { net, reply })

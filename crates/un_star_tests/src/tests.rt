@@ -40,6 +40,7 @@ fn node(feature: u64, number: u8, at: Point) -> Node {
     }
 }
 
+// A point on the x axis.
 pub(crate) fn east(x: i32) -> Point {
     Point { x, y: 0, z: 0 }
 }
@@ -84,6 +85,7 @@ fn has_ports(star: &Star, want: &[Port]) -> bool {
     true
 }
 
+// Whether the links have exactly these names, in this order.
 pub(crate) fn are_named(ties: &[Tie], want: &[LinkName]) -> bool {
     if ties.len() != want.len() {
         return false;
@@ -121,6 +123,7 @@ fn error(kind: ErrorKind, feature: u64, number: u8, assoc: u64) -> TopoError {
     }
 }
 
+// The name of the link by a segment of a line.
 pub(crate) fn segment(line: u64, index: u8) -> LinkName {
     LinkName::Seg { line, index }
 }
