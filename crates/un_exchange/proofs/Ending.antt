@@ -1,5 +1,5 @@
 -- A link that ends because the session can't go on.
-use Rattle.std.proofs.Common.{◌≡◌, ◌⊎◌, ◌≤◌, ◌+◌, ◌-◌, ◌^◌, ℕ, min, Bool, true, false, List, [], ◌∷◌, ◌++◌, Option, Some, refl, ap, sym, ◌∙◌, subst, inl, inr, arith}
+use Rattle.std.proofs.Common.{◌≡◌, ◌⊎◌, ◌≤◌, ◌+◌, ◌-◌, ◌^◌, ℕ, min, Bool, true, false, List, [], ◌∷◌, ◌++◌, Option, Some, ap, sym, ◌∙◌, subst, inl, inr, arith}
 use Rattle.std.proofs.lemmas.List.{map-append}
 use Rattle.un_io.specs.Outside.{Rose}
 use Rattle.un_publish.specs.Models.{SessionModel}
@@ -8,12 +8,12 @@ use Rattle.un_http.specs.declared.check.Check.{Check}
 use Rattle.un_http.specs.declared.check.Check.TheVariants.{BadHead, ManyHeaders, NotSupported, LongBody, NoLength}
 use Rattle.un_turns.specs.declared.request.Response.{Response}
 use Rattle.un_turns.specs.declared.request.Response.TheVariants.{Nothing, Accepted, Refused, Answer, Ahead, Denied as IsDenied, Memory}
-use Rattle.un_turns.specs.Truths.{denials_in, all_denials}
+use Rattle.un_turns.specs.Truths.{all_denials}
 use Rattle.un_exchange.specs.declared.asked.Asked.{Asked}
 use Rattle.un_exchange.specs.declared.end.LinkEnd.TheVariants as end
 use Rattle.un_exchange.specs.Exchanges.{Printing, Exchange, end_if, end_after, responses}
 use Rattle.un_exchange.specs.Writing.{check_end}
-use Rattle.un_exchange.specs.Links.{HasServed, HasNoRoom}
+use Rattle.un_exchange.specs.Links.{HasServed}
 
 -- a request that asks to close the link does not end it so
 not_denied : (close : Bool) (d : Denied) → end_if close ≡ Some (end.Denied d) → ⊥

@@ -1,5 +1,5 @@
 -- One request at the session.
-use Rattle.std.proofs.Common.{◌≡◌, ◌⊎◌, ℕ, Bool, List, Option, refl, sym, subst, inl, inr}
+use Rattle.std.proofs.Common.{◌≡◌, ◌⊎◌, ℕ, Bool, List, Option, refl, subst, inl, inr}
 use Rattle.un_publish.specs.Models.{SessionModel}
 use Rattle.un_http.specs.States.{Holding}
 use Rattle.un_http.specs.Answers.{given}
@@ -15,7 +15,7 @@ use Rattle.un_exchange.specs.declared.end.LinkEnd.{LinkEnd}
 use Rattle.un_exchange.specs.declared.respond.Outgoing.{Outgoing}
 use Rattle.un_exchange.specs.declared.respond.Outgoing.TheVariants as out
 use Rattle.un_exchange.specs.Pages.{PageModel, memory_page}
-use Rattle.un_exchange.specs.Exchanges.{Printing, CanPrint, request_of, page_of, end_after}
+use Rattle.un_exchange.specs.Exchanges.{Printing, CanPrint, request_of, page_of}
 use Rattle.un_exchange.specs.Writing.{IsOutgoing, Writes, page_bytes, outgoing_page, outgoing_end}
 use Rattle.un_exchange.specs.Handling.{AsksSession, FitsIn, IsHandled, IsAnswered}
 

@@ -1,11 +1,11 @@
 -- One more exchange of a link, and the end of a link.
-use Rattle.std.proofs.Common.{◌≡◌, ◌⊎◌, ◌<◌, ◌^◌, ℕ, Bool, false, List, [], ◌∷◌, ◌++◌, Option, Some, None, refl, ap, sym, ◌∙◌, subst, inl, inr, arith, append_assoc, MatchOption}
-use Rattle.std.specs.Prelude.{flat_map, map, is_some}
+use Rattle.std.proofs.Common.{◌≡◌, ◌⊎◌, ◌<◌, ◌^◌, ℕ, false, List, [], ◌∷◌, ◌++◌, Option, Some, None, refl, ap, sym, ◌∙◌, subst, inl, inr, arith, append_assoc, MatchOption}
+use Rattle.std.specs.Prelude.{is_some}
 use Rattle.std.specs.List.{All}
 use Rattle.std.proofs.lemmas.List.{map-append, append-nil}
 use Rattle.std.proofs.lemmas.Grind.{flat_map-append}
 use Rattle.std.proofs.lemmas.List.Elements.{All-push}
-use Rattle.std.specs.Io.KnownBytes.{Consumes, Appends, IsAtEnd}
+use Rattle.std.specs.Io.KnownBytes.{Consumes, Appends}
 use Rattle.un_io.specs.Outside.{AppendsPrefix}
 use Rattle.un_io.proofs.Chains.{Appends-trans, Appends-none, Consumes-trans, Consumes-none, Keeps-refl}
 use Rattle.un_publish.specs.Models.{SessionModel}
@@ -18,9 +18,8 @@ use Rattle.un_turns.specs.Served.{AreServed, IsServed}
 use Rattle.un_turns.specs.Truths.{MoreLaw, TruthLaw}
 use Rattle.un_exchange.specs.declared.asked.Asked.{Asked}
 use Rattle.un_exchange.specs.declared.end.LinkEnd.{LinkEnd}
-use Rattle.un_exchange.specs.declared.end.LinkEnd.TheVariants.{WriteFault}
 use Rattle.un_exchange.specs.Pages.{http_page, check_status}
-use Rattle.un_exchange.specs.Exchanges.{Printing, Exchange, IsAsked, request_of, end_after, bytes_of, all_bytes, received, requests, responses, closes, AreOpen}
+use Rattle.un_exchange.specs.Exchanges.{Printing, Exchange, IsAsked, request_of, end_after, bytes_of, all_bytes, received, requests, responses, closes}
 use Rattle.un_exchange.specs.Writing.{Writes, page_bytes, check_end}
 use Rattle.un_exchange.specs.Links.{HasExchanged, HasEnded, HasServed, NoMore}
 use Rattle.un_exchange.proofs.Writes.{prefix_then}

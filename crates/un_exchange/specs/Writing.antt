@@ -5,7 +5,6 @@ use Rattle.un_io.specs.Outside.{AppendsPrefix}
 use Rattle.un_http.specs.declared.check.Check.{Check}
 use Rattle.un_http.specs.declared.check.Check.TheVariants.{BadHead, ManyHeaders, NotSupported, LongBody, NoLength}
 use Rattle.un_turns.specs.declared.request.Response.{Response}
-use Rattle.un_turns.specs.declared.request.Response.TheVariants.{Denied as IsDenied, Memory as NoMemory}
 use Rattle.un_exchange.specs.declared.asked.Asked.{Asked}
 use Rattle.un_exchange.specs.declared.end.LinkEnd.{LinkEnd}
 use Rattle.un_exchange.specs.declared.end.LinkEnd.TheVariants as end

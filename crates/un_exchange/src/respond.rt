@@ -14,6 +14,7 @@ use crate::service::{REPLY_ROOM, Service};
 use crate::status::Status;
 use std::alloc::Global;
 use std::sync::Wait;
+use std::thread::Threads;
 use un_desk::desk::Desk;
 use un_http::Inbox;
 use un_machine::Machine;
@@ -60,7 +61,7 @@ fn print_response<M: Machine, S: Service<M>>(
 }
 
 // Handles a command or a query at the session.
-fn ask_session<R: Wait, M: Machine, S: Service<M>, J: BoardName<M>>(
+fn ask_session<R: Wait + Threads + Sync, M: Machine, S: Service<M>, J: BoardName<M>>(
     rt: &R,
     alloc: Global,
     desk: &Desk<M, J>,
@@ -85,7 +86,7 @@ where
 }
 
 /// Handles the request that the inbox gives, up to what is to be written. If memory runs out, the request did nothing.
-pub(crate) fn respond<R: Wait, M: Machine, S: Service<M>, J: BoardName<M>>(
+pub(crate) fn respond<R: Wait + Threads + Sync, M: Machine, S: Service<M>, J: BoardName<M>>(
     rt: &R,
     alloc: Global,
     service: &S,

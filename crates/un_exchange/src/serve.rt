@@ -13,6 +13,7 @@ use crate::service::{REPLY_ROOM, Service};
 use crate::status::Status;
 use std::alloc::{AllocError, Global};
 use std::sync::Wait;
+use std::thread::Threads;
 use un_desk::desk::Desk;
 use un_http::{Check, Inbox, Next, next_request, one_more};
 use un_io::Link;
@@ -55,7 +56,7 @@ fn check_status(check: Check) -> Status
 }
 
 // Handles the next request of the link, and writes its response, unless there is none or it fails a check.
-fn next_exchange<R: Wait, M: Machine, S: Service<M>, J: BoardName<M>, L: Link>(
+fn next_exchange<R: Wait + Threads + Sync, M: Machine, S: Service<M>, J: BoardName<M>, L: Link>(
     rt: &R,
     alloc: Global,
     service: &S,
@@ -107,7 +108,7 @@ where
 }
 
 // Handles the requests of the link, until it ends.
-fn serve<R: Wait, M: Machine, S: Service<M>, J: BoardName<M>, L: Link>(
+fn serve<R: Wait + Threads + Sync, M: Machine, S: Service<M>, J: BoardName<M>, L: Link>(
     rt: &R,
     alloc: Global,
     service: &S,
@@ -157,7 +158,7 @@ fn take_room(alloc: Global) -> Result<Room, AllocError>
 /// Handles the requests of a link, one after another, and writes their responses. It waits for the link and, where a
 /// request needs it, for the desk. If there is no memory for the room that a link takes, it reads nothing, writes the
 /// response that says so, and ends with `Memory`; it may also end with `WriteFault` then.
-pub fn serve_link<R: Wait, M: Machine, S: Service<M>, J: BoardName<M>, L: Link>(
+pub fn serve_link<R: Wait + Threads + Sync, M: Machine, S: Service<M>, J: BoardName<M>, L: Link>(
     rt: &R,
     alloc: Global,
     service: &S,

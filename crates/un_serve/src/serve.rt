@@ -11,6 +11,7 @@ ghost use Rattle.un_serve.specs.Serving.{ServesNet, least_of, answer_of};
 use crate::service::NetService;
 use std::alloc::Global;
 use std::sync::Wait;
+use std::thread::Threads;
 use un_core::Net;
 use un_core::histories::{logs_are_histories, states_are_faithful};
 use un_core::laws::steps_reply;
@@ -21,7 +22,7 @@ use un_publish::published::{BoardName, Published, Snapshot};
 use un_publish::session::Session;
 
 // Handles the requests of a link by the service.
-fn serve_by<R: Wait, J: BoardName<Net>, L: Link>(
+fn serve_by<R: Wait + Threads + Sync, J: BoardName<Net>, L: Link>(
     rt: &R,
     alloc: Global,
     service: &NetService,
@@ -49,7 +50,7 @@ where
 /// Handles the requests of a link, one after another, and writes their responses. It waits for the link, for the desk
 /// where a request is a command, and where a query asks for more entries of the log than the session finds. `Memory`
 /// before any request was read: there was no room for the link, and the response that says so was written.
-pub fn serve_link<R: Wait, J: BoardName<Net>, L: Link>(
+pub fn serve_link<R: Wait + Threads + Sync, J: BoardName<Net>, L: Link>(
     rt: &R,
     alloc: Global,
     desk: &Desk<Net, J>,

@@ -5,9 +5,10 @@ ghost use Rattle.un_ask.specs.Replies.{HasFewEdits};
 use crate::asking::{NetAsked, read_asked};
 use crate::printing::{reply_page, reply_status};
 use std::alloc::{AllocError, Global};
+use std::thread::Threads;
 use un_ask::{Command, Query, Refusal, Reply};
-use un_core::Net;
 use un_core::laws::steps_reply;
+use un_core::{Net, Prepared};
 use un_exchange::{Page, Service, Status};
 use un_http::Routes;
 use un_journal::receipt::Ahead;
@@ -60,6 +61,23 @@ impl Answers<Net> for NetService {
         let mut steps = Steps::<()>::new();
         let reply = state.answer(alloc, query, &mut steps)?;
         reply_page(alloc, &reply)
+    }
+
+    fn may_prepare(cmd: &Command) -> bool {
+        matches!(cmd, Command::Validate { .. })
+    }
+
+    // The stars of a validation are built in advance.
+    fn prepare<R: Threads + Sync>(
+        rt: &R,
+        alloc: Global,
+        state: &Net,
+        cmd: &Command,
+    ) -> Result<Option<Prepared>, AllocError> {
+        match cmd {
+            Command::Validate { extent } => Ok(Some(state.prepare(rt, alloc, *extent)?)),
+            _ => Ok(None),
+        }
     }
 }
 

@@ -21,7 +21,7 @@ fn next_link<R: Wait, D: Door, N: DoorCount>(rt: &R, gate: &Mutex<Gate<D, N>>) -
 }
 
 // Serves one link after another, until the door has ended. How a link ended matters to that link alone.
-fn work<R: Wait, J: BoardName<Net>, D: Door, N: DoorCount>(
+fn work<R: Wait + Threads + Sync, J: BoardName<Net>, D: Door, N: DoorCount>(
     rt: &R,
     alloc: Global,
     desk: &Desk<Net, J>,

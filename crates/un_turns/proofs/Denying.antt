@@ -4,7 +4,7 @@ use Rattle.un_publish.specs.Models.{SessionModel, risen}
 use Rattle.un_publish.specs.declared.session.Denied.TheVariants.{NoCopy, Book, Long}
 use Rattle.un_publish.specs.declared.session.SessionFault.TheVariants.{Denied as Refused, Memory}
 use Rattle.un_desk.specs.declared.desk.ViewFault.TheVariants.{Ahead, Denied as NotTaught, Memory as NoMemory}
-use Rattle.un_turns.specs.Turns.{Turn, Passed, Decided, Undecided, Answered, Unanswered, IsTurn}
+use Rattle.un_turns.specs.Turns.{Turn, Passed, Decided, Undecided, Unprepared, Answered, Unanswered, IsTurn}
 use Rattle.un_turns.specs.Conversations.{denials_of, denials, DenialLaw}
 
 -- a count after none or one more
@@ -32,6 +32,10 @@ module _ {M C R H K Q : Type 0} (step : M → C → (M × (R × K)) ⊎ R) (open
   turn_denied s t (Undecided cmd (Refused NoCopy)) h = inr (refl, of h.0)
   turn_denied s t (Undecided cmd (Refused (Long a b))) h = inr (refl, of h.0.0)
   turn_denied s t (Undecided cmd (Refused (Book a b))) h = inr (refl, of h.0.0)
+  turn_denied s t (Unprepared cmd Memory) h = inl (refl, of h.0)
+  turn_denied s t (Unprepared cmd (Refused NoCopy)) h = inr (refl, of h.0)
+  turn_denied s t (Unprepared cmd (Refused (Long a b))) h = absurd h.0
+  turn_denied s t (Unprepared cmd (Refused (Book a b))) h = absurd h.0
   turn_denied s t (Answered query v) h =
       elim h.1 as (λ _. Counts 0 s.denied t.denied) [ inl r ↦ inl (refl, of r.kept) | inr w ↦ inl (refl, of w.2.kept ∙ of w.1.read.kept) ]
   turn_denied s t (Unanswered query (Ahead a)) (inl (Refused d, e, r, p)) = absurd (cc e)

@@ -14,7 +14,7 @@ use Rattle.un_journal.specs.declared.receipt.Receipt.{Receipt}
 use Rattle.un_desk.specs.Desks.{IsSubmitted, counted}
 use Rattle.un_desk.specs.declared.desk.ViewFault.{ViewFault}
 use Rattle.un_desk.specs.declared.desk.ViewFault.TheVariants.{Ahead, Denied as NotTaught, Memory as NoMemory}
-use Rattle.un_turns.specs.Turns.{Turn, Passed, Decided, Undecided, Answered, Unanswered, IsTurn, IsRead, IsAnswered, IsUnanswered}
+use Rattle.un_turns.specs.Turns.{Turn, Passed, Decided, Undecided, Unprepared, Answered, Unanswered, IsTurn, IsRead, IsAnswered, IsUnanswered}
 use Rattle.un_turns.specs.Conversations.{Conversed, IsDecidedAt, IsLastEntry, IsAheadOf, IsTrueTurn, AreTrueTurns, TrueTurnsLaw}
 use Rattle.un_turns.proofs.Turning.{turn_number, all_seen}
 
@@ -80,6 +80,7 @@ module _ {M C R H K Q : Type 0} (step : M → C → (M × (R × K)) ⊎ R) (open
   turn_holds s t Passed h = tt
   turn_holds s t (Decided cmd r) h = decided_holds step opening s t cmd r h
   turn_holds s t (Undecided cmd f) h = tt
+  turn_holds s t (Unprepared cmd f) h = tt
   turn_holds s t (Answered query v) h = answered_holds step opening s t (least query) v h
   turn_holds s t (Unanswered query f) h = unanswered_holds step opening s t (least query) f h
 
@@ -89,6 +90,7 @@ module _ {M C R H K Q : Type 0} (step : M → C → (M × (R × K)) ⊎ R) (open
       let le : r.version ≤ length xs = let e = h.version ∙ length-take r.version xs in omega (arith, e) in
       subst (λ (l : List (Entry M C R H K)). IsDecidedAt step opening number l cmd r) (sym (take_prefix r.version xs ys p le)) h
   holds_longer number xs ys (Undecided cmd f) p h = tt
+  holds_longer number xs ys (Unprepared cmd f) p h = tt
   holds_longer number xs ys (Answered query v) p h =
       let longer = prefix_length xs ys p in
       (h.0, omega (arith, h.1, longer), subst (λ (l : List (Entry M C R H K)). Reaches step opening l (arc_value v.state)) (sym (take_prefix v.version xs ys p h.1)) h.2)

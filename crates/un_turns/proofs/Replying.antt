@@ -1,5 +1,5 @@
 -- The reply in a response is that of a step.
-use Rattle.std.proofs.Common.{◌≡◌, ◌⊎◌, ℕ, Bool, true, false, List, sym, inl, inr, subst, refl}
+use Rattle.std.proofs.Common.{◌≡◌, ◌⊎◌, ℕ, List, sym, inl, inr, subst}
 use Rattle.std.specs.Arc.{arc_value}
 use Rattle.un_publish.specs.Models.{SessionModel}
 use Rattle.un_publish.specs.declared.session.SessionFault.{SessionFault}
@@ -12,7 +12,7 @@ use Rattle.un_turns.specs.declared.request.Request.{Request}
 use Rattle.un_turns.specs.declared.request.Request.TheVariants.{Command}
 use Rattle.un_turns.specs.declared.request.Response.{Response}
 use Rattle.un_turns.specs.declared.request.Response.TheVariants.{Nothing, Answer, Ahead, Denied, Memory as NoRoom}
-use Rattle.un_turns.specs.Turns.{Turn, Passed, Decided, Undecided, Answered, Unanswered, IsTurn}
+use Rattle.un_turns.specs.Turns.{Turn, Passed, Decided, Undecided, Unprepared, Answered, Unanswered, IsTurn}
 use Rattle.un_turns.specs.Served.{IsResponseOf, IsReplyOf, receipt_response, fault_response, view_response}
 use Rattle.un_turns.specs.Truths.{ReplyLaw}
 
@@ -43,6 +43,7 @@ module _ {M C R H K Q A : Type 0} (step : M → C → (M × (R × K)) ⊎ R) (op
   turn_reply s t q Passed r h (inr e) = at_equal step q r NoRoom e tt
   turn_reply s t q (Decided cmd d) r h e = at_equal step q r (receipt_response d) e.1 (decided_reply s t q cmd d e.0 h)
   turn_reply s t q (Undecided cmd f) r h e = fault_reply step q r f e.1
+  turn_reply s t q (Unprepared cmd f) r h e = fault_reply step q r f e.1
   turn_reply s t q (Answered query v) r h e = at_equal step q r (Answer v.version (answer (arc_value v.state) query)) e.1 tt
   turn_reply s t q (Unanswered query f) r h e = view_reply step q r f e.1
 

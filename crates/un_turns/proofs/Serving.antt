@@ -1,13 +1,12 @@
 -- One more request that was handled.
-use Rattle.std.proofs.Common.{◌≡◌, ◌⊎◌, ℕ, List, [], ◌∷◌, ◌++◌, refl, ap, sym, ◌∙◌, subst, append_assoc}
+use Rattle.std.proofs.Common.{◌⊎◌, ℕ, List, [], ◌∷◌, ◌++◌, ap, sym, ◌∙◌, subst}
 use Rattle.std.proofs.lemmas.List.{map-append}
-use Rattle.un_publish.specs.Models.{SessionModel}
 use Rattle.un_turns.specs.declared.request.Request.{Request}
 use Rattle.un_turns.specs.declared.request.Response.{Response}
 use Rattle.un_turns.specs.Turns.{Turn}
 use Rattle.un_turns.specs.Conversations.{Conversed}
 use Rattle.un_turns.specs.Truths.{MoreLaw}
-use Rattle.un_turns.specs.Served.{Exchange, turns_of, IsResponseOf, AreResponses, IsServed, AreServed}
+use Rattle.un_turns.specs.Served.{Exchange, turns_of, IsResponseOf, AreResponses}
 use Rattle.un_turns.proofs.Turning.{conversed_more}
 
 module _ {M C R H K Q A : Type 0} where

@@ -13,10 +13,10 @@ use Rattle.un_turns.specs.declared.request.Request.{Request}
 use Rattle.un_turns.specs.declared.request.Request.TheVariants.{Other, Command, Query}
 use Rattle.un_turns.specs.declared.request.Response.{Response}
 use Rattle.un_turns.specs.declared.request.Response.TheVariants.{Nothing, Answer, Ahead, Memory}
-use Rattle.un_turns.specs.Turns.{Turn, Passed, Decided, Undecided, Answered, Unanswered, IsTurn, IsAnswered, IsUnanswered}
+use Rattle.un_turns.specs.Turns.{Turn, Passed, Decided, Undecided, Unprepared, Answered, Unanswered, IsTurn, IsAnswered, IsUnanswered}
 use Rattle.un_publish.specs.declared.session.View.{View}
 use Rattle.un_turns.proofs.Holding.{decided_here}
-use Rattle.un_turns.specs.Conversations.{IsTrueTurn, AreTrueTurns, IsDecidedAt, Rises, versions_of, accepted_of, denials_of, denials, waits_of, waits_due, known_after, decision, Conversed}
+use Rattle.un_turns.specs.Conversations.{IsTrueTurn, AreTrueTurns, IsDecidedAt, Rises, versions_of, accepted_of, denials_of, denials, waits_of, waits_due, known_after, Conversed}
 use Rattle.un_turns.specs.Served.{Exchange, requests_of, turns_of, responses_of, IsResponseOf, AreResponses, receipt_response, fault_response, view_response}
 use Rattle.un_turns.specs.Truths.{versions_in, denials_in, known_in, waits_in, accepted_in, all_accepted, all_waits, all_denials, IsTrueOf, AreTrueOf, IsTrueAt, AreTrueFrom, IsTruthful, TruthLaw}
 use Rattle.un_turns.proofs.Turning.{all_seen, versions_rise, turn_seen, turn_number}
@@ -46,6 +46,10 @@ module _ {M C R H K Q A : Type 0} where
   undecided_agrees cmd (Refusing d) = record { versions = refl; denials = refl; known = λ k. refl; accepted = refl; waits = λ l k. omega arith }
   undecided_agrees cmd NoMemory = record { versions = refl; denials = refl; known = λ k. refl; accepted = refl; waits = λ l k. omega arith }
 
+  unprepared_agrees : (cmd : C) (f : SessionFault) → Agrees (exchange (Command cmd) (Unprepared cmd f) (fault_response f))
+  unprepared_agrees cmd (Refusing d) = record { versions = refl; denials = refl; known = λ k. refl; accepted = refl; waits = λ l k. omega arith }
+  unprepared_agrees cmd NoMemory = record { versions = refl; denials = refl; known = λ k. refl; accepted = refl; waits = λ l k. omega arith }
+
   unanswered_agrees : (query : Q) (f : ViewFault) → Agrees (exchange (Query query) (Unanswered query f) (view_response f))
   unanswered_agrees query (BehindView a) = record { versions = refl; denials = refl; known = λ k. refl; accepted = refl; waits = λ l k. omega arith }
   unanswered_agrees query (NotTaught d) = record { versions = refl; denials = refl; known = λ k. refl; accepted = refl; waits = λ l k. omega arith }
@@ -65,6 +69,7 @@ module _ {M C R H K Q A : Type 0} where
   agrees answer q Passed r (inr h) = same_exchange (λ x. Agrees x) q q Passed r Memory refl h (memory_agrees q)
   agrees answer q (Decided cmd d) r h = same_exchange (λ x. Agrees x) q (Command cmd) (Decided cmd d) r (receipt_response d) h.0 h.1 (decided_agrees cmd d d.accepted refl)
   agrees answer q (Undecided cmd f) r h = same_exchange (λ x. Agrees x) q (Command cmd) (Undecided cmd f) r (fault_response f) h.0 h.1 (undecided_agrees cmd f)
+  agrees answer q (Unprepared cmd f) r h = same_exchange (λ x. Agrees x) q (Command cmd) (Unprepared cmd f) r (fault_response f) h.0 h.1 (unprepared_agrees cmd f)
   agrees answer q (Answered query v) r h = same_exchange (λ x. Agrees x) q (Query query) (Answered query v) r (Answer v.version (answer (arc_value v.state) query)) h.0 h.1 (record { versions = refl; denials = refl; known = λ k. refl; accepted = refl; waits = λ l k. omega arith })
   agrees answer q (Unanswered query f) r h = same_exchange (λ x. Agrees x) q (Query query) (Unanswered query f) r (view_response f) h.0 h.1 (unanswered_agrees query f)
 
@@ -114,6 +119,8 @@ module _ {M C R H K Q A : Type 0} (step : M → C → (M × (R × K)) ⊎ R) (op
       same_exchange (λ (x : Exchange M C R H K Q A). IsTrueOf step opening least answer number seen x.request x.response) q (Command cmd) (Decided cmd d) r (receipt_response d) h.0 h.1 (decided_true cmd d t)
   true_of q (Undecided cmd f) r h t =
       same_exchange (λ (x : Exchange M C R H K Q A). IsTrueOf step opening least answer number seen x.request x.response) q (Command cmd) (Undecided cmd f) r (fault_response f) h.0 h.1 (undecided_true cmd f)
+  true_of q (Unprepared cmd f) r h t =
+      same_exchange (λ (x : Exchange M C R H K Q A). IsTrueOf step opening least answer number seen x.request x.response) q (Command cmd) (Unprepared cmd f) r (fault_response f) h.0 h.1 (undecided_true cmd f)
   true_of q (Answered query v) r h t =
       same_exchange (λ (x : Exchange M C R H K Q A). IsTrueOf step opening least answer number seen x.request x.response) q (Query query) (Answered query v) r (Answer v.version (answer (arc_value v.state) query)) h.0 h.1
       (query, arc_value v.state, refl, t.0, t.1, t.2, refl)
@@ -159,6 +166,8 @@ module _ {M C R H K Q A : Type 0} (step : M → C → (M × (R × K)) ⊎ R) (op
       same_exchange (λ (x : Exchange M C R H K Q A). IsTrueAt step opening least answer s.number t.seen x.request x.response) q (Command cmd) (Decided cmd d) r (receipt_response d) h.0 h.1 (decided_at s.number t.seen cmd d (decided_here step opening s t cmd d i))
   true_at s t q (Undecided cmd f) r h i =
       same_exchange (λ (x : Exchange M C R H K Q A). IsTrueAt step opening least answer s.number t.seen x.request x.response) q (Command cmd) (Undecided cmd f) r (fault_response f) h.0 h.1 (undecided_at s.number t.seen cmd f)
+  true_at s t q (Unprepared cmd f) r h i =
+      same_exchange (λ (x : Exchange M C R H K Q A). IsTrueAt step opening least answer s.number t.seen x.request x.response) q (Command cmd) (Unprepared cmd f) r (fault_response f) h.0 h.1 (undecided_at s.number t.seen cmd f)
   true_at s t q (Answered query v) r h i =
       same_exchange (λ (x : Exchange M C R H K Q A). IsTrueAt step opening least answer s.number t.seen x.request x.response) q (Query query) (Answered query v) r (Answer v.version (answer (arc_value v.state) query)) h.0 h.1 (answered_at s t query v i)
   true_at s t q (Unanswered query f) r h i =

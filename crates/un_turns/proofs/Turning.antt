@@ -17,7 +17,7 @@ use Rattle.un_desk.specs.Desks.{IsSubmitted, IsDeskFault, IsNotTaught, counted}
 use Rattle.un_desk.specs.Views.{IsViewFault}
 use Rattle.un_desk.specs.declared.desk.ViewFault.{ViewFault}
 use Rattle.un_desk.specs.declared.desk.ViewFault.TheVariants.{Ahead, Denied as NotTaught, Memory as NoMemory}
-use Rattle.un_turns.specs.Turns.{Turn, Passed, Decided, Undecided, Answered, Unanswered, IsTurn, IsRead, IsOlder, IsAnswered, IsUnanswered}
+use Rattle.un_turns.specs.Turns.{Turn, Passed, Decided, Undecided, Unprepared, Answered, Unanswered, IsTurn, IsRead, IsOlder, IsAnswered, IsUnanswered}
 use Rattle.un_turns.specs.Conversations.{Conversed, accepted_by, accepted_of, waits_of, wait_if_later, known_after, versions_of, Rises, SnocLaw, VersionLaw}
 
 risen_le : (n : ℕ) → risen n ≤ n + 1
@@ -123,6 +123,7 @@ module _ {M C R H K Q : Type 0} (step : M → C → (M × (R × K)) ⊎ R) (open
   turn_moves known s t Passed k h = move s t s.seen s.own s.denied s.waits 0 0 h (subst (λ (x : SessionModel M C R H K). IsPrefix s.seen x.seen) (sym h) (prefix_self s.seen)) (omega arith) (omega arith)
   turn_moves known s t (Decided cmd r) k h = decided_moves step opening s t cmd r h
   turn_moves known s t (Undecided cmd f) k h = desk_fault_moves s t f h.0 h.1
+  turn_moves known s t (Unprepared cmd f) k h = read_fault_moves s t f h.0 h.1
   turn_moves known s t (Answered query v) k h = answered_moves step opening s t known (least query) v k h
   turn_moves known s t (Unanswered query f) k h = unanswered_moves step opening s t known (least query) f k h
 
@@ -155,6 +156,7 @@ module _ {M C R H K Q : Type 0} (step : M → C → (M × (R × K)) ⊎ R) (open
   known_seen known s t Passed k h = let g = prefix_length s.seen t.seen (turn_seen s t Passed h) in omega (arith, g, k)
   known_seen known s t (Decided cmd r) k h = known_le r.version known s.seen t.seen k (decided_version s t cmd r h) h.seen
   known_seen known s t (Undecided cmd f) k h = let g = prefix_length s.seen t.seen h.1 in omega (arith, g, k)
+  known_seen known s t (Unprepared cmd f) k h = let g = prefix_length s.seen t.seen h.1 in omega (arith, g, k)
   known_seen known s t (Answered query v) k h = known_le v.version known s.seen t.seen k (answered_version s t (least query) v h) (turn_seen s t (Answered query v) h)
   known_seen known s t (Unanswered query f) k h = let g = prefix_length s.seen t.seen (turn_seen s t (Unanswered query f) h) in omega (arith, g, k)
 
@@ -167,6 +169,7 @@ module _ {M C R H K Q : Type 0} (step : M → C → (M × (R × K)) ⊎ R) (open
       let e = decided_version s h.0 cmd r h.1 in
       (omega (arith, seen, e), rise_from r.version h.0 t us (omega (arith, e)) h.2)
   rise_from from s t (Undecided cmd f ∷ us) k h = rise_from from h.0 t us (known_seen from s h.0 (Undecided cmd f) k h.1) h.2
+  rise_from from s t (Unprepared cmd f ∷ us) k h = rise_from from h.0 t us (known_seen from s h.0 (Unprepared cmd f) k h.1) h.2
   rise_from from s t (Answered query v ∷ us) k h =
       let seen = known_seen from s h.0 (Answered query v) k h.1 in
       let e = answered_version s h.0 (least query) v h.1 in

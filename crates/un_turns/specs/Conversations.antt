@@ -10,7 +10,7 @@ use Rattle.un_publish.specs.declared.session.SessionFault.TheVariants.{Denied as
 use Rattle.un_desk.specs.declared.desk.ViewFault.{ViewFault}
 use Rattle.un_desk.specs.declared.desk.ViewFault.TheVariants.{Ahead, Denied, Memory}
 use Rattle.un_turns.specs.Own.{own_entries, IsWithin}
-use Rattle.un_turns.specs.Turns.{Turn, IsTurn, Passed, Decided, Undecided, Answered, Unanswered}
+use Rattle.un_turns.specs.Turns.{Turn, IsTurn, Passed, Decided, Undecided, Unprepared, Answered, Unanswered}
 
 -- 1 if more entries are asked for than are known, and otherwise 0
 abbrev pub wait_if_later : ℕ → ℕ → ℕ
@@ -38,6 +38,7 @@ module _ {M C R H K Q : Type 0} where
   versions_of Passed = []
   versions_of (Decided cmd r) = r.version ∷ []
   versions_of (Undecided cmd f) = []
+  versions_of (Unprepared cmd f) = []
   versions_of (Answered query v) = v.version ∷ []
   versions_of (Unanswered query f) = []
 
@@ -46,14 +47,16 @@ module _ {M C R H K Q : Type 0} where
   accepted_of Passed = []
   accepted_of (Decided cmd r) = accepted_by cmd r
   accepted_of (Undecided cmd f) = []
+  accepted_of (Unprepared cmd f) = []
   accepted_of (Answered query v) = []
   accepted_of (Unanswered query f) = []
 
-  -- how many times a turn may wait: once for a command, and once for a query that asks for more entries than are known
+  -- how many times a turn may wait: once for a command that comes to the desk, and once for a query that asks for more entries than are known
   abbrev pub waits_of : (Q → ℕ) → ℕ → Turn M C R H K Q → ℕ
   waits_of least known Passed = 0
   waits_of least known (Decided cmd r) = 1
   waits_of least known (Undecided cmd f) = 1
+  waits_of least known (Unprepared cmd f) = 0
   waits_of least known (Answered query v) = wait_if_later known (least query)
   waits_of least known (Unanswered query f) = wait_if_later known (least query)
 
@@ -62,6 +65,7 @@ module _ {M C R H K Q : Type 0} where
   known_after known Passed = known
   known_after known (Decided cmd r) = max known r.version
   known_after known (Undecided cmd f) = known
+  known_after known (Unprepared cmd f) = known
   known_after known (Answered query v) = max known v.version
   known_after known (Unanswered query f) = known
 
@@ -77,6 +81,8 @@ module _ {M C R H K Q : Type 0} where
   denials_of (Decided cmd r) = 0
   denials_of (Undecided cmd (Refused d)) = 1
   denials_of (Undecided cmd NoMemory) = 0
+  denials_of (Unprepared cmd (Refused d)) = 1
+  denials_of (Unprepared cmd NoMemory) = 0
   denials_of (Answered query v) = 0
   denials_of (Unanswered query (Ahead a)) = 0
   denials_of (Unanswered query (Denied d)) = 1
@@ -119,6 +125,7 @@ module _ {M C R H K Q : Type 0} where
   IsTrueTurn step opening least number seen Passed = Unit {0}
   IsTrueTurn step opening least number seen (Decided cmd r) = IsDecidedAt step opening number (take r.version seen) cmd r
   IsTrueTurn step opening least number seen (Undecided cmd f) = Unit {0}
+  IsTrueTurn step opening least number seen (Unprepared cmd f) = Unit {0}
   IsTrueTurn step opening least number seen (Answered query v) = (least query ≤ v.version) × (v.version ≤ length seen) × Reaches step opening (take v.version seen) (arc_value v.state)
   IsTrueTurn step opening least number seen (Unanswered query f) = IsAheadOf (least query) (length seen) f
 

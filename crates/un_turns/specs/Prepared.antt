@@ -1,11 +1,18 @@
--- A command that is decided after a read.
+-- A command for which work is done in advance, after a read.
 use Rattle.std.specs.Prelude.{◌⊎◌, List}
+use Rattle.un_machine.specs.declared.Entry.{Entry}
+use Rattle.un_machine.specs.Logs.{Reaches}
 use Rattle.un_publish.specs.Models.{SessionModel}
 use Rattle.un_publish.specs.declared.session.View.{View}
 use Rattle.un_publish.specs.declared.session.SessionFault.{SessionFault}
 use Rattle.un_journal.specs.declared.receipt.Receipt.{Receipt}
 use Rattle.un_desk.specs.Desks.{IsSubmitted, IsDeskFault, counted}
 use Rattle.un_turns.specs.Turns.{IsRead}
+
+module _ {M C R H K : Type 0} where
+  -- work that was done at the state after these entries
+  abbrev pub IsPreparedAfter : (M → C → (M × (R × K)) ⊎ R) → (H → M → Type 0) → List M → List (Entry M C R H K) → H → Type 0
+  IsPreparedAfter step prepared opening seen hint = (s : M) × Reaches step opening seen s × prepared hint s
 
 module _ {M C R K : Type 0} where
   -- a session may read before it submits a command: the two calls do what submitting alone may do

@@ -1,5 +1,5 @@
 -- The response to a request, by what the request did to the session.
-use Rattle.std.specs.Prelude.{◌≡◌, ◌⊎◌, ℕ, if◌then◌else◌, List, [], ◌∷◌, ◌++◌, map}
+use Rattle.std.specs.Prelude.{◌≡◌, ◌⊎◌, ℕ, if◌then◌else◌, List, [], ◌∷◌, map}
 use Rattle.std.proofs.Common.{inl, inr}
 use Rattle.std.specs.Arc.{arc_value}
 use Rattle.un_publish.specs.Models.{SessionModel}
@@ -12,7 +12,7 @@ use Rattle.un_turns.specs.declared.request.Request.{Request}
 use Rattle.un_turns.specs.declared.request.Request.TheVariants.{Other, Command, Query}
 use Rattle.un_turns.specs.declared.request.Response.{Response}
 use Rattle.un_turns.specs.declared.request.Response.TheVariants.{Nothing, Accepted, Refused, Answer, Ahead, Denied, Memory}
-use Rattle.un_turns.specs.Turns.{Turn, IsTurn, Passed, Decided, Undecided, Answered, Unanswered}
+use Rattle.un_turns.specs.Turns.{Turn, IsTurn, Passed, Decided, Undecided, Unprepared, Answered, Unanswered}
 use Rattle.un_turns.specs.Conversations.{Conversed}
 
 module _ {R A : Type 0} where
@@ -36,6 +36,7 @@ module _ {M C R H K Q A : Type 0} where
   IsResponseOf answer request Passed response = ((request ≡ Other) × (response ≡ Nothing)) ⊎ (response ≡ Memory)
   IsResponseOf answer request (Decided cmd r) response = (request ≡ Command cmd) × (response ≡ receipt_response r)
   IsResponseOf answer request (Undecided cmd f) response = (request ≡ Command cmd) × (response ≡ fault_response f)
+  IsResponseOf answer request (Unprepared cmd f) response = (request ≡ Command cmd) × (response ≡ fault_response f)
   IsResponseOf answer request (Answered query v) response = (request ≡ Query query) × (response ≡ Answer v.version (answer (arc_value v.state) query))
   IsResponseOf answer request (Unanswered query f) response = (request ≡ Query query) × (response ≡ view_response f)
 

@@ -22,6 +22,8 @@ pub data Turn (M C R H K Q : Type 0) : Type 0 where
   Decided : C → Receipt M C R H K → Turn M C R H K Q
   -- a command that was not decided
   Undecided : C → SessionFault → Turn M C R H K Q
+  -- a command that was not decided: the session could not read, or memory ran out, while work for it was done in advance
+  Unprepared : C → SessionFault → Turn M C R H K Q
   -- a query that was answered at a view
   Answered : Q → View M → Turn M C R H K Q
   -- a query that was not answered
@@ -63,5 +65,6 @@ module _ {M C R H K Q : Type 0} where
   IsTurn step opening least s Passed t = t ≡ s
   IsTurn step opening least s (Decided cmd r) t = IsSubmitted step opening s t cmd r
   IsTurn step opening least s (Undecided cmd f) t = IsDeskFault (counted s) t f × IsPrefix s.seen t.seen
+  IsTurn step opening least s (Unprepared cmd f) t = IsReadFault s t f × IsPrefix s.seen t.seen
   IsTurn step opening least s (Answered query v) t = IsAnswered step opening s t (least query) v
   IsTurn step opening least s (Unanswered query f) t = IsUnanswered step opening s t (least query) f

@@ -1,11 +1,13 @@
-//! Queries about the states of a machine.
+//! Queries about the states of a machine, and work for its commands that can be done in advance.
 
 use std::alloc::{AllocError, Global};
+use std::thread::Threads;
 use un_machine::Machine;
 
-/// Queries about the states of a machine, and their answers.
+/// Queries about the states of a machine and their answers, and work for its commands that can be done in advance.
 pub trait Answers<M: Machine> {
-    ghost use Rattle.std.specs.Prelude.{◌≡◌, ℕ, IfOk};
+    ghost use Rattle.std.specs.Prelude.{◌≡◌, ℕ, IfOk, IfSome};
+    ghost use Rattle.std.specs.Thread.{IsSync};
 
     /// A question about a state. It may ask that the state comes after a number of entries of the log at least.
     type Query: Drop;
@@ -26,4 +28,17 @@ pub trait Answers<M: Machine> {
     /// The answer of a query at a state.
     fn answer(alloc: Global, state: &M, query: &Self::Query) -> Result<Self::Answer, AllocError>
         ensures { IfOk result (λ a. a ≡ answer state.now query.now) };
+
+    /// Whether work may be done in advance for the command.
+    fn may_prepare(cmd: &M::Cmd) -> bool;
+
+    /// Work for the command, done at a state on threads of the runtime, or `None` where there is none.
+    fn prepare<R: Threads + Sync>(
+        rt: &R,
+        alloc: Global,
+        state: &M,
+        cmd: &M::Cmd,
+    ) -> Result<Option<M::Hint>, AllocError>
+        requires { IsSync R.row }
+        ensures { IfOk result (λ hint. IfSome hint (λ h. M.prepared h state.now)) };
 }

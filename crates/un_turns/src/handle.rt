@@ -1,12 +1,16 @@
 //! One request at a session: a command goes to the desk, and a query is answered without it if possible.
-ghost use Rattle.std.specs.Prelude.{IfOk, IfErr, ◌≡◌};
+ghost use Rattle.std.specs.Prelude.{IfOk, IfErr, IfSome, length, ◌≡◌};
+ghost use mathlib.Core.List.{IsPrefix};
+ghost use Rattle.un_desk.specs.Desks.{IsSubmitted, IsDeskFault, counted};
 ghost use Rattle.un_turns.specs.Turns.{IsAnswered, IsUnanswered, view_fault};
+ghost use Rattle.un_turns.specs.Prepared.{IsPreparedAfter};
 ghost use Rattle.un_turns.specs.Served.{fault_response, IsServed, receipt_response, view_response};
 
 use crate::answers::Answers;
 use crate::request::{Request, Response};
 use std::alloc::Global;
 use std::sync::Wait;
+use std::thread::Threads;
 use un_desk::desk::{Desk, ViewFault};
 use un_journal::receipt::Receipt;
 use un_machine::Machine;
@@ -81,8 +85,34 @@ fn receipt_response<M: Machine, A>(receipt: Receipt<M>) -> Response<M::Reply, A>
     }
 }
 
-// Handles a command.
-fn decide<R: Wait, M: Machine, A: Answers<M>, J: BoardName<M>>(
+// Submits a command, with work that was done for it in advance at a view of the session if the machine says that it was.
+fn submit_after<R: Wait, M: Machine, J: BoardName<M>>(
+    rt: &R,
+    alloc: Global,
+    desk: &Desk<M, J>,
+    session: &mut Session<M, J>,
+    cmd: M::Cmd,
+    version: u64,
+    hint: Option<M::Hint>,
+) -> Result<Receipt<M>, SessionFault>
+where
+    Published<M, J>: Snapshot<State = Published<M, J>>,
+    requires version { version ≡ length session.old.seen }
+    requires prepared { IfSome hint (IsPreparedAfter M.step M.prepared J.opening session.old.seen) }
+    ensures receipt { IfOk result (IsSubmitted M.step J.opening session.old session.new cmd) }
+    ensures fault { IfErr result (IsDeskFault (counted session.old) session.new) }
+    ensures seen { IsPrefix session.old.seen session.new.seen }
+{
+    match hint {
+        Some(hint) if M::prepared_at(&hint) == version => {
+            desk.submit_prepared(rt, alloc, session, cmd, hint)
+        }
+        _ => desk.submit(rt, alloc, session, cmd),
+    }
+}
+
+// Handles a command for which work may be done in advance: at a view that the session reads by itself.
+fn decide_prepared<R: Wait + Threads + Sync, M: Machine, A: Answers<M>, J: BoardName<M>>(
     rt: &R,
     alloc: Global,
     desk: &Desk<M, J>,
@@ -94,6 +124,35 @@ where
     ensures { IsServed M.step J.opening A.least A.answer
         session.old (Request.Command cmd) result session.new }
 {
+    let view = match session.read() {
+        Ok(view) => view,
+        Err(fault) => return fault_response(fault),
+    };
+    let Ok(hint) = A::prepare(rt, alloc, &view.state, &cmd) else {
+        return Response::Memory;
+    };
+    match submit_after::<R, M, J>(rt, alloc, desk, session, cmd, view.version, hint) {
+        Ok(receipt) => receipt_response(receipt),
+        Err(fault) => fault_response(fault),
+    }
+}
+
+// Handles a command.
+fn decide<R: Wait + Threads + Sync, M: Machine, A: Answers<M>, J: BoardName<M>>(
+    rt: &R,
+    alloc: Global,
+    desk: &Desk<M, J>,
+    session: &mut Session<M, J>,
+    cmd: M::Cmd,
+) -> Response<M::Reply, A::Answer>
+where
+    Published<M, J>: Snapshot<State = Published<M, J>>,
+    ensures { IsServed M.step J.opening A.least A.answer
+        session.old (Request.Command cmd) result session.new }
+{
+    if A::may_prepare(&cmd) {
+        return decide_prepared::<R, M, A, J>(rt, alloc, desk, session, cmd);
+    }
     match desk.submit(rt, alloc, session, cmd) {
         Ok(receipt) => receipt_response(receipt),
         Err(fault) => fault_response(fault),
@@ -129,8 +188,8 @@ where
 /// Handles a request: one turn takes the session from its state before to its state after, and the response is that of
 /// the turn. It waits for the desk if the request is a command, or a query that asks for more entries of the log than
 /// the session finds. `Memory` and `Denied` come as from the calls of the session and the desk; `Memory` also if memory
-/// runs out while a query is answered. After both nothing was committed.
-pub fn handle_request<R: Wait, M: Machine, A: Answers<M>, J: BoardName<M>>(
+/// runs out while a query is answered, or while work is done for a command in advance. After both nothing was committed.
+pub fn handle_request<R: Wait + Threads + Sync, M: Machine, A: Answers<M>, J: BoardName<M>>(
     rt: &R,
     alloc: Global,
     desk: &Desk<M, J>,

@@ -1,4 +1,4 @@
-use Rattle.std.proofs.Common.{refl, arith}
+use Rattle.std.proofs.Common.{arith}
 use Rattle.un_exchange.proofs.Linking.{exchanged_none}
 use Rattle.un_exchange.proofs.serve.serve.Goals as goal
 

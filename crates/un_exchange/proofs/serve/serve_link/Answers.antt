@@ -1,4 +1,4 @@
-use Rattle.std.proofs.Common.{◌<◌, ◌^◌, inl, inr, refl, arith}
+use Rattle.std.proofs.Common.{◌<◌, ◌^◌, inl, arith}
 use Rattle.un_turns.specs.Own.{IsWithin}
 use Rattle.un_exchange.specs.declared.end.LinkEnd.TheVariants.{Denied}
 use Rattle.un_exchange.proofs.Linking.{served_whole}
