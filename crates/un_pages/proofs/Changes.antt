@@ -51,11 +51,11 @@ module _ {K V : Type 0} {cmp : K → K → Ordering} (o : IsTotalOrder cmp) (key
     ordered = subst (IsOrdered cmp) (sym e) (insert_ordered o key l v page.ordered);
   }
     where
-      replaced_bound : (q : Option V) → q ≡ lookup (is_at (cmp key)) l → IsSome q → length r ≤ 64
+      replaced_bound : (q : Option V) → q ≡ lookup (is_at (cmp key)) l → IsSome q → length r ≤ 32
       replaced_bound None h s = cc
       replaced_bound (Some w) h s = let count = count_insert o key l v page.ordered in omega (arith, rw (← h) at count, ap length e, page.bound)
 
-  pub page_added : (l r : List (K × V)) (v : V) → IsPage cmp l → length l < 64 → r ≡ insert_entry cmp l key v → IsPage cmp r
+  pub page_added : (l r : List (K × V)) (v : V) → IsPage cmp l → length l < 32 → r ≡ insert_entry cmp l key v → IsPage cmp r
   page_added l r v page room e = record {
     some = subst (λ q. 0 < length q) (sym e) (some_insert o key l v);
     bound = omega (arith, ap length e, length_insert o key l v, room);
@@ -134,7 +134,7 @@ module _ {K T V : Type 0} (pairs : T → List (K × V)) where
   length_keep test [] = omega arith
   length_keep test (x ∷ l) = elim (test x.0) as (λ b. length (x ∷ l) ≤ length (cond b l (x ∷ remove_entry test l)) + 1) [ true ↦ omega arith | false ↦ omega (arith, length_keep test l) ]
 
-  pub branch_rest : {cmp : K → K → Ordering} (test : K → Bool) (old row new : List (K × T)) → length old ≤ 64 → IsKept cmp pairs old row → 21 < length row → flat pairs new ≡ remove_entry test (flat pairs row) → IsChanged cmp pairs (length row) new → IsBranch cmp pairs new
+  pub branch_rest : {cmp : K → K → Ordering} (test : K → Bool) (old row new : List (K × T)) → length old ≤ 32 → IsKept cmp pairs old row → 10 < length row → flat pairs new ≡ remove_entry test (flat pairs row) → IsChanged cmp pairs (length row) new → IsBranch cmp pairs new
   branch_rest test old row new bound kept many e changed = record {
     bound = omega (arith, changed.bound, kept.count, bound);
     grown = record {
@@ -205,7 +205,7 @@ module _ {K V : Type 0} {cmp : K → K → Ordering} (o : IsTotalOrder cmp) (key
   pub pair_cut : (new : List (K × V)) → IsFound cmp row key i → new ≡ take i row ++ drop (i + 1) row → new ≡ remove_entry (is_at (cmp key)) row
   pair_cut new f h = let x = got o key row i f.within in h ∙ cut_found o key row i x.0 f x.1
 
-  pub page_cut : (new : List (K × V)) → IsPage cmp row → 21 < length row → IsFound cmp row key i → new ≡ remove_entry (is_at (cmp key)) row → IsPage cmp new
+  pub page_cut : (new : List (K × V)) → IsPage cmp row → 10 < length row → IsFound cmp row key i → new ≡ remove_entry (is_at (cmp key)) row → IsPage cmp new
   page_cut new page many f e =
       let counted = counted_remove o key row new (length row) (record { ordered = page.ordered; count = refl }) (found_some f) e in
       rest_page o key row new page e (omega (arith, counted.count, many))

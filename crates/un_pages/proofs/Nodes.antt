@@ -29,10 +29,10 @@ module _ {K V : Type 0} {cmp : K → K → Ordering} (o : IsTotalOrder cmp) wher
   pub ordered_drop : (l : List (K × V)) (n : ℕ) → IsOrdered cmp l → IsOrdered cmp (drop n l)
   ordered_drop l n s = ordered-right o (take n l) (drop n l) (subst (IsOrdered cmp) (sym (take-append-drop n l)) s)
 
-  pub page_take : (l : List (K × V)) (n : ℕ) → IsOrdered cmp l → 0 < n → n ≤ 64 → n ≤ length l → IsPage cmp (take n l)
+  pub page_take : (l : List (K × V)) (n : ℕ) → IsOrdered cmp l → 0 < n → n ≤ 32 → n ≤ length l → IsPage cmp (take n l)
   page_take l n s some bound within = record { some = omega (arith, length-take n l); bound = omega (arith, length-take n l); ordered = ordered_take l n s }
 
-  pub page_drop : (l : List (K × V)) (n : ℕ) → IsOrdered cmp l → n < length l → length l ≤ n + 64 → IsPage cmp (drop n l)
+  pub page_drop : (l : List (K × V)) (n : ℕ) → IsOrdered cmp l → n < length l → length l ≤ n + 32 → IsPage cmp (drop n l)
   page_drop l n s some bound = record { some = omega (arith, length-drop n l); bound = omega (arith, length-drop n l); ordered = ordered_drop l n s }
 
   module _ (key : K) where
@@ -123,7 +123,7 @@ module _ {K T V : Type 0} {cmp : K → K → Ordering} (o : IsTotalOrder cmp) (p
   flat_halves : (row : List (K × T)) (n : ℕ) → flat pairs row ≡ flat pairs (take n row) ++ flat pairs (drop n row)
   flat_halves row n = ap (flat pairs) (sym (take-append-drop n row)) ∙ flat-append pairs (take n row) (drop n row)
 
-  pub branch_take : (row : List (K × T)) (n : ℕ) → IsGrown cmp pairs row → 0 < n → n ≤ 64 → n ≤ length row → IsBranch cmp pairs (take n row)
+  pub branch_take : (row : List (K × T)) (n : ℕ) → IsGrown cmp pairs row → 0 < n → n ≤ 32 → n ≤ length row → IsBranch cmp pairs (take n row)
   branch_take row n grown some bound within = record {
     bound = omega (arith, length-take n row);
     grown = record {
@@ -133,7 +133,7 @@ module _ {K T V : Type 0} {cmp : K → K → Ordering} (o : IsTotalOrder cmp) (p
     };
   }
 
-  pub branch_drop : (row : List (K × T)) (n : ℕ) → IsGrown cmp pairs row → n < length row → length row ≤ n + 64 → IsBranch cmp pairs (drop n row)
+  pub branch_drop : (row : List (K × T)) (n : ℕ) → IsGrown cmp pairs row → n < length row → length row ≤ n + 32 → IsBranch cmp pairs (drop n row)
   branch_drop row n grown some bound = record {
     bound = omega (arith, length-drop n row);
     grown = record {

@@ -116,15 +116,15 @@ held = option_map pair_held
 abbrev pub value_held : {V Z : Type 0} → Option (Bor (Arc V Z)) → Option V
 value_held = option_map (λ r. r.now.value)
 
--- a page: 1 to 64 pairs in the order of their keys
+-- a page: 1 to 32 pairs in the order of their keys
 pub record IsPage {K V : Type 0} (cmp : K → K → Ordering) (row : List (K × V)) : Type 0 where
   pub some : 0 < length row
-  pub bound : length row ≤ 64
+  pub bound : length row ≤ 32
   pub ordered : IsOrdered cmp row
 
--- a block or a shelf: 1 to 64 parts
+-- a block or a shelf: 1 to 32 parts
 pub record IsBranch {K T V : Type 0} (cmp : K → K → Ordering) (pairs : T → List (K × V)) (row : List (K × T)) : Type 0 where
-  pub bound : length row ≤ 64
+  pub bound : length row ≤ 32
   pub grown : IsGrown cmp pairs row
 
 -- one or two parts that have the pairs, each beside its first key

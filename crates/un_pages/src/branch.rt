@@ -39,7 +39,7 @@ fn packed<K: Ord + Copy, V, T: Level<K, V>>(
     row: Row<K, T>,
 ) -> Result<(Branch<K, V, T>, Option<Branch<K, V, T>>), AllocError>
     requires grown { IsGrown K.cmp T.pairs row }
-    requires bound { length row ≤ 128 }
+    requires bound { length row ≤ 64 }
     ensures { IfOk result (λ r. spread (λ b. b) r ≡ flat T.pairs row) }
 {
     let len = row.len();

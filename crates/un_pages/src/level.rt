@@ -10,7 +10,7 @@ use std::alloc::{AllocError, Global};
 use std::sync::Arc;
 
 /// The most entries of a page, a block or a shelf.
-pub(crate) const ROOM: usize = 64;
+pub(crate) const ROOM: usize = 32;
 
 /// A node with fewer entries is joined with a neighbour, or filled from it.
 pub(crate) const LEAST_FILL: usize = ROOM / 3;

@@ -1,7 +1,7 @@
 //! An ordered map on shared pages, of which an old version never changes.
 //!
-//! A map is a tree of four kinds of nodes. A page holds 1 to 64 pairs in the order of their keys, a
-//! block 1 to 64 pages, a shelf 1 to 64 blocks, and the root list any number of shelves. Each node
+//! A map is a tree of four kinds of nodes. A page holds 1 to 32 pairs in the order of their keys, a
+//! block 1 to 32 pages, a shelf 1 to 32 blocks, and the root list any number of shelves. Each node
 //! and each value stands in an `Arc`, and beside each node stands its first key.
 //!
 //! To find a key, each level takes the last part whose first key is not above it, by a binary search:
@@ -9,8 +9,8 @@
 //! done to the pairs of the whole map is done by that part alone.
 //!
 //! `with` and `without` copy the one page, block, shelf and root list on the way to the key, and share
-//! all else with the old map. A node with more than 64 entries is split in halves. One with fewer than
-//! 21 is joined with a neighbour, or the two share their entries evenly. A change copies about 200
+//! all else with the old map. A node with more than 32 entries is split in halves. One with fewer than
+//! 10 is joined with a neighbour, or the two share their entries evenly. A change copies about 200
 //! entries of 16 bytes, whatever the size of the map, and a look-up compares about 20 keys in a million.
 //!
 //! `put` and `take` do the same in the map itself. On the way down each node asks its `Arc` whether it

@@ -34,7 +34,7 @@ fn packed<K: Ord + Copy, V: Drop>(
     row: Row<K, V>,
 ) -> Result<(Page<K, V>, Option<Page<K, V>>), AllocError>
     requires some { 0 < length row }
-    requires bound { length row ≤ 128 }
+    requires bound { length row ≤ 64 }
     requires ordered { IsOrdered K.cmp row }
     ensures { IfOk result (λ r. spread (λ p. p) r ≡ row) }
 {
