@@ -6,4 +6,5 @@ pub mod Outcome
 pub mod SameStar
 pub mod Changes
 pub mod Stored
+pub mod RowIndex
 pub mod Laws

@@ -8,8 +8,10 @@ ghost use Rattle.std.specs.Option.{option_copied};
 ghost use Rattle.un_geom.specs.Places.{point_cmp, same_point};
 ghost use Rattle.un_defs.specs.Features.{is_of_subnet};
 ghost use Rattle.un_subnet.specs.SameStar.{same_star};
+ghost use Rattle.un_subnet.specs.RowIndex.{changed_subjects};
 ghost use Rattle.un_subnet.specs.Changes.{star_or_empty, is_empty_star, controllers_in, with_point, gathered_at, changes_at, has_any, is_at_point, is_made_dirty};
 
+use crate::row_index::Subject;
 use crate::same_star::is_same_star;
 use crate::sorted::sorted_points;
 use std::alloc::{AllocError, Global};
@@ -196,6 +198,22 @@ impl<'a> StarChanges<'a> {
         ensures { result ≡ is_made_dirty row.now.tier row.now.subnet row.now.points self.now }
     {
         self.are_at_point(row) || self.have_controller_of(row)
+    }
+}
+
+impl<'a> StarChanges<'a> {
+    /// What they concern: each point, and the subnetwork of each controller.
+    pub(crate) fn subjects(&self, alloc: Global) -> Result<Vec<Subject>, AllocError>
+        ensures { IfOk result (λ subjects. subjects.items ≡ changed_subjects self.now) }
+    {
+        let mut subjects = Vec::new(alloc);
+        for point in self.points.as_slice() {
+            subjects.push(Subject::At(*point))?;
+        }
+        for controller in self.controllers.as_slice() {
+            subjects.push(Subject::of_subnet(controller.tier, &controller.subnet))?;
+        }
+        Ok(subjects)
     }
 }
 

@@ -1,113 +1,204 @@
 //! The stored rows of subnetworks.
+//!
+//! # What is to be found
+//!
+//! The rows stand in the order of their updates. Asked for is the row of a subnetwork. An update puts a row in place of that of its
+//! subnetwork, behind all others. A validation makes each row dirty that a star concerns which it has changed.
+//!
+//! # How it is found
+//!
+//! The rows stand in an ordered map on shared pages, by a number that rises from update to update. A second map holds a key for each row and
+//! each subject that concerns it: its subnetwork and its points (`row_index`). A look-up goes over the keys of the name to the first row of
+//! that name. An update takes the old row and its keys out, and puts the new ones in. A validation looks up the rows at each point that has
+//! changed, and those of the subnetwork of each controller that a changed star had or has, and tests these rows alone.
+//!
+//! # Why that is enough
+//!
+//! The keys are those that the rows tell, and no others. A row becomes dirty by a change at one of its points or of a controller of its
+//! subnetwork, so it has a key under what has changed.
+//!
+//! # What it costs
+//!
+//! A look-up takes time by the logarithm of the count of keys. An update does so for each point of the old row and of the new one. A validation
+//! does so for each changed point and controller and for each row that it finds there; a row that is not dirty yet is tested once more, by a
+//! binary search for each changed point, or for each of its own points if these are fewer. What is not touched is shared with the rows before.
 
-ghost use Rattle.std.specs.Prelude.{◌≡◌, [], ◌++◌, map, length, option_to_list, IfOk, OnOk, IfSome};
+ghost use Rattle.std.specs.Prelude.{◌≡◌, ◌<◌, ◌∷◌, ◌++◌, [], map, length, IfOk, OnOk, IfSome};
+ghost use Rattle.std.specs.List.{AllByRecursion};
 ghost use Rattle.std.specs.List.Sorted.{IsStrictlySortedBy};
+ghost use Rattle.std.specs.BTreeMap.{is_at};
+ghost use Rattle.std.specs.Map.{values_of, remove_entry};
+ghost use Rattle.std.specs.Ordering.{nat_cmp};
 ghost use Rattle.std.specs.Option.{option_copied, option_map};
 ghost use Rattle.un_geom.specs.Places.{point_cmp};
 ghost use Rattle.un_subnet.specs.Outcome.{is_row_of, has_row, other_rows};
 ghost use Rattle.un_subnet.specs.Stored.{row_for, under, with_row, marked, AreOrdered};
+ghost use Rattle.un_subnet.specs.RowIndex.{IsIndex, changed_subjects, found_row, others_in, made_in};
 
 use crate::changes::StarChanges;
+use crate::entry::Entry;
+use crate::row_index::{Key, Subject, first_key, numbers_of, put_keys, take_keys};
 use std::alloc::{AllocError, Global};
 use std::marker::Model;
 use std::sync::Arc;
 use un_ask::{Status, StoredSubnet};
+use un_pages::Paged;
 use un_schema::Name;
 
-/// A stored row. Its status stands apart from the rest, which is shared: it alone changes.
-#[derive(Drop)]
-struct Entry {
-    row: Arc<StoredSubnet>,
-    status: Status,
+/// The first row of a subnetwork, and its number.
+fn found_row<'a>(
+    rows: &'a Paged<u64, Entry>,
+    keys: &Paged<Key, ()>,
+    tier: u8,
+    subnet: &Name,
+) -> Option<(u64, &'a Entry)>
+    requires { IsIndex rows.now keys.now }
+    ensures { option_map (λ pair. (pair.0, pair.1.now)) result ≡ found_row rows.now tier subnet.now }
+{
+    // For the proof alone.
+    let (_rows, _keys) = (rows.len(), keys.len());
+    let subject = Subject::of_subnet(tier, subnet);
+    for (key, _) in keys.range(first_key(subject)) {
+        if !key.is_under(subject) {
+            return None;
+        }
+        if let Some(entry) = rows.get(&key.number) {
+            if entry.is_of(tier, subnet) {
+                return Some((key.number, entry));
+            }
+        }
+    }
+    None
 }
 
-impl Model for Entry {
-    ghost use Rattle.std.specs.Arc.{arc_value};
-    ghost use Rattle.un_ask.specs.declared.stored.StoredSubnet.{StoredSubnet};
-    ghost use Rattle.un_subnet.specs.Stored.{under};
-
-    ghost Value = { StoredSubnet };
-
-    ghost view = { λ e. under (arc_value e.row, e.status) };
+/// Takes a row and its keys out.
+fn take_row(
+    alloc: Global,
+    rows: &mut Paged<u64, Entry>,
+    keys: &mut Paged<Key, ()>,
+    number: u64,
+) -> Result<(), AllocError>
+    requires { IsIndex rows.old keys.old }
+    ensures rows { OnOk result (rows.new ≡ remove_entry (is_at (nat_cmp number)) rows.old) }
+    ensures index { OnOk result (IsIndex rows.new keys.new) }
+{
+    // For the proof alone.
+    let _len = rows.len();
+    if let Some(entry) = rows.get(&number) {
+        take_keys(alloc, keys, number, &entry.row)?;
+    }
+    rows.take(alloc, &number)?;
+    Ok(())
 }
 
-impl Entry {
-    fn is_of(&self, tier: u8, subnet: &Name) -> bool
-        ensures { result ≡ is_row_of tier subnet.now self.now }
-    {
-        self.row.tier == tier && subnet.text() == self.row.subnet.text()
+/// Takes the rows of a subnetwork out.
+fn take_rows_of(
+    alloc: Global,
+    rows: &mut Paged<u64, Entry>,
+    keys: &mut Paged<Key, ()>,
+    tier: u8,
+    subnet: &Name,
+) -> Result<(), AllocError>
+    requires { IsIndex rows.old keys.old }
+    ensures rows { OnOk result (rows.new ≡ others_in rows.old tier subnet.now) }
+    ensures index { OnOk result (IsIndex rows.new keys.new) }
+{
+    while let Some((number, _)) = found_row(rows, keys, tier, subnet) {
+        // For the proof alone.
+        let _len = rows.len();
+        take_row(alloc, rows, keys, number)?;
     }
-
-    /// The same row, which is shared.
-    fn share(&self) -> Result<Entry, AllocError>
-        ensures { IfOk result (λ entry. entry ≡ self.now) }
-    {
-        Ok(Entry {
-            row: Arc::try_clone(&self.row)?,
-            status: self.status,
-        })
-    }
-
-    /// The row once stars have changed.
-    fn marked(&self, changes: &StarChanges<'_>) -> Result<Entry, AllocError>
-        requires { IsStrictlySortedBy point_cmp self.now.points }
-        ensures { IfOk result (λ entry. entry ≡ marked changes.now self.now) }
-    {
-        let status = if changes.make_dirty(&self.row) {
-            Status::Dirty
-        } else {
-            self.status
-        };
-        Ok(Entry {
-            row: Arc::try_clone(&self.row)?,
-            status,
-        })
-    }
+    Ok(())
 }
 
+/// Adds a row behind all others.
 fn add_row(
     alloc: Global,
-    entries: &mut Vec<Entry>,
-    row: Option<StoredSubnet>,
+    rows: &mut Paged<u64, Entry>,
+    keys: &mut Paged<Key, ()>,
+    number: u64,
+    row: StoredSubnet,
 ) -> Result<(), AllocError>
-    ensures { OnOk result (entries.new.items ≡ entries.old.items ++ option_to_list row) }
+    requires index { IsIndex rows.old keys.old }
+    requires below { AllByRecursion (λ e. e.0 < number) rows.old }
+    ensures rows { OnOk result (rows.new ≡ rows.old ++ (number, row) ∷ []) }
+    ensures index { OnOk result (IsIndex rows.new keys.new) }
 {
-    if let Some(row) = row {
-        let status = row.status;
-        let row = Arc::new(alloc, row)?;
-        entries.push(Entry { row, status })?;
+    put_keys(alloc, keys, number, &row)?;
+    let entry = Entry::new(alloc, row)?;
+    rows.put(alloc, number, Arc::new(alloc, entry)?)?;
+    Ok(())
+}
+
+/// The row with this number, once stars have changed.
+fn mark(
+    alloc: Global,
+    rows: &mut Paged<u64, Entry>,
+    number: u64,
+    changes: &StarChanges<'_>,
+) -> Result<(), AllocError>
+    requires { AreOrdered (values_of rows.old) }
+    ensures { OnOk result (rows.new ≡ made_in (marked changes.now) (number ∷ []) rows.old) }
+{
+    // For the proof alone.
+    let _len = rows.len();
+    let Some(entry) = rows.get(&number) else {
+        return Ok(());
+    };
+    if let Some(entry) = entry.marked(changes)? {
+        rows.put(alloc, number, Arc::new(alloc, entry)?)?;
+    }
+    Ok(())
+}
+
+/// The rows with these numbers, once stars have changed.
+fn mark_all(
+    alloc: Global,
+    rows: &mut Paged<u64, Entry>,
+    numbers: &[u64],
+    changes: &StarChanges<'_>,
+) -> Result<(), AllocError>
+    requires { AreOrdered (values_of rows.old) }
+    ensures { OnOk result (rows.new ≡ made_in (marked changes.now) numbers.now rows.old) }
+{
+    for number in numbers {
+        mark(alloc, rows, *number, changes)?;
     }
     Ok(())
 }
 
 /// The stored rows, one for each subnetwork. They never change: each call that would change them gives new ones, which share what is stored.
-///
-/// Each call takes a step for each row, of which the network keeps at most 4,096.
 #[derive(Drop)]
 pub struct StoredRows {
-    entries: Arc<Vec<Entry>>,
+    /// By a number that rises from update to update.
+    rows: Paged<u64, Entry>,
+    keys: Paged<Key, ()>,
+    /// The number of the next row.
+    next: u64,
 }
 
 impl Model for StoredRows {
     ghost use Rattle.std.specs.Prelude.{List};
-    ghost use Rattle.std.specs.Arc.{arc_value};
+    ghost use Rattle.std.specs.Map.{values_of};
     ghost use Rattle.un_ask.specs.declared.stored.StoredSubnet.{StoredSubnet};
-    ghost use Rattle.un_subnet.specs.Stored.{AreOrdered};
+    ghost use Rattle.un_subnet.specs.RowIndex.{AreKept};
 
     ghost Value = { List StoredSubnet };
 
-    ghost view = { λ r. (arc_value r.entries).items };
+    ghost view = { λ r. values_of r.rows };
 
-    ghost invariant = { λ r. AreOrdered (arc_value r.entries).items };
+    ghost invariant = { λ r. AreKept r.rows r.keys r.next };
 }
 
 impl StoredRows {
-    /// No rows.
-    pub fn new(alloc: Global) -> Result<StoredRows, AllocError>
+    /// No rows, which take no memory.
+    pub fn new(_alloc: Global) -> Result<StoredRows, AllocError>
         ensures { IfOk result (λ rows. rows ≡ []) }
     {
         Ok(StoredRows {
-            entries: Arc::new(alloc, Vec::new(alloc))?,
+            rows: Paged::new(),
+            keys: Paged::new(),
+            next: 0,
         })
     }
 
@@ -116,7 +207,7 @@ impl StoredRows {
         ensures len { result ≡ length self.now }
         ensures ordered { AreOrdered self.now }
     {
-        self.entries.len()
+        self.rows.len() as usize
     }
 
     /// Equal rows, which are shared.
@@ -124,7 +215,9 @@ impl StoredRows {
         ensures { IfOk result (λ rows. rows ≡ self.now) }
     {
         Ok(StoredRows {
-            entries: Arc::try_clone(&self.entries)?,
+            rows: self.rows.share()?,
+            keys: self.keys.share()?,
+            next: self.next,
         })
     }
 
@@ -132,41 +225,41 @@ impl StoredRows {
     pub fn has(&self, tier: u8, subnet: &Name) -> bool
         ensures { result ≡ has_row self.now tier subnet.now }
     {
-        self.entries
-            .as_slice()
-            .iter()
-            .any(|entry| entry.is_of(tier, subnet))
-    }
-
-    fn entry(&self, tier: u8, subnet: &Name) -> Option<&Entry>
-        ensures { option_copied result ≡ row_for self.now tier subnet.now }
-    {
-        self.entries
-            .as_slice()
-            .iter()
-            .find(|entry| entry.is_of(tier, subnet))
+        found_row(&self.rows, &self.keys, tier, subnet).is_some()
     }
 
     /// The row of a subnetwork, with the status that it has now.
     pub fn get(&self, tier: u8, subnet: &Name) -> Option<(&StoredSubnet, Status)>
         ensures { option_map (λ pair. under (pair.0.now, pair.1)) result ≡ row_for self.now tier subnet.now }
     {
-        let entry = self.entry(tier, subnet)?;
+        let (_, entry) = found_row(&self.rows, &self.keys, tier, subnet)?;
         Some((&entry.row, entry.status))
     }
 
     /// The rows of other subnetworks.
-    fn others(&self, alloc: Global, tier: u8, subnet: &Name) -> Result<Vec<Entry>, AllocError>
-        ensures rows { IfOk result (λ entries. entries.items ≡ other_rows self.now tier subnet.now) }
-        ensures ordered { OnOk result (AreOrdered self.now) }
+    fn others(&self, alloc: Global, tier: u8, subnet: &Name) -> Result<StoredRows, AllocError>
+        ensures { IfOk result (λ rows. rows ≡ other_rows self.now tier subnet.now) }
     {
-        let mut entries = Vec::new(alloc);
-        for entry in self.entries.as_slice() {
-            if !entry.is_of(tier, subnet) {
-                entries.push(entry.share()?)?;
-            }
-        }
-        Ok(entries)
+        let mut rows = self.rows.share()?;
+        let mut keys = self.keys.share()?;
+        take_rows_of(alloc, &mut rows, &mut keys, tier, subnet)?;
+        Ok(StoredRows {
+            rows,
+            keys,
+            next: self.next,
+        })
+    }
+
+    /// The rows with this one behind them. Where the numbers are used up, there is no room for it.
+    fn added(&self, alloc: Global, row: StoredSubnet) -> Result<StoredRows, AllocError>
+        requires { IsStrictlySortedBy point_cmp row.points }
+        ensures { IfOk result (λ rows. rows ≡ self.now ++ row ∷ []) }
+    {
+        let next = self.next.checked_add(1).ok_or(AllocError)?;
+        let mut rows = self.rows.share()?;
+        let mut keys = self.keys.share()?;
+        add_row(alloc, &mut rows, &mut keys, self.next, row)?;
+        Ok(StoredRows { rows, keys, next })
     }
 
     /// The rows with this one in place of that of a subnetwork, or without it. The points of a row are in order.
@@ -180,23 +273,28 @@ impl StoredRows {
         requires { IfSome row (λ row. IsStrictlySortedBy point_cmp row.points) }
         ensures { IfOk result (λ rows. rows ≡ with_row self.now tier subnet.now row) }
     {
-        let mut entries = self.others(alloc, tier, subnet)?;
-        add_row(alloc, &mut entries, row)?;
-        Ok(StoredRows {
-            entries: Arc::new(alloc, entries)?,
-        })
+        let others = self.others(alloc, tier, subnet)?;
+        match row {
+            Some(row) => others.added(alloc, row),
+            None => Ok(others),
+        }
     }
 
     /// The rows once stars have changed: each that this concerns is dirty.
     pub fn marked(&self, alloc: Global, changes: &StarChanges<'_>) -> Result<StoredRows, AllocError>
         ensures { IfOk result (λ rows. rows ≡ map (marked changes.now) self.now) }
     {
-        let mut entries = Vec::with_capacity(alloc, self.entries.len())?;
-        for entry in self.entries.as_slice() {
-            entries.push(entry.marked(changes)?)?;
-        }
+        // For the proof alone.
+        let _len = self.rows.len();
+        let subjects = changes.subjects(alloc)?;
+        let numbers = numbers_of(alloc, &self.keys, &subjects)?;
+        let mut rows = self.rows.share()?;
+        let keys = self.keys.share()?;
+        mark_all(alloc, &mut rows, &numbers, changes)?;
         Ok(StoredRows {
-            entries: Arc::new(alloc, entries)?,
+            rows,
+            keys,
+            next: self.next,
         })
     }
 }

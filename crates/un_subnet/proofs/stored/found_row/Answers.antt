@@ -1,0 +1,48 @@
+use Rattle.std.proofs.Common.{◌∙◌, ap, sym, subst, Some, None, cond}
+use Rattle.un_pages.specs.Pairs.{IsOrdered, from_on}
+use Rattle.un_subnet.specs.Outcome.{is_row_of}
+use Rattle.un_subnet.specs.RowIndex.{numbers_at}
+use Rattle.un_subnet.proofs.Keys.{keys_alike, key_cmp}
+use Rattle.un_subnet.proofs.Runs.{run_at, run_all, run_more}
+use Rattle.un_subnet.proofs.Found.{found_first, found_step}
+use Rattle.un_subnet.proofs.Numbered.{found_in}
+use Rattle.un_subnet.proofs.stored.found_row.Goals as goal
+
+pub loop-key-init : goal.loop-key-init
+loop-key-init c =
+    let ordered = subst (λ cmp. IsOrdered cmp c.args.keys.now) keys_alike c.len-keys.ensures.ordered in
+    ap (λ rest. found_in (is_row_of c.args.tier c.args.subnet.now) c.args.rows.now (run_at c.of_subnet-subject.result rest))
+    (c.into_iter-key-iterator.ensures.into_iter_gives ∙ c.range-key-items.ensures.pairs
+    ∙ ap (λ cmp. from_on cmp c.first_key.result c.args.keys.now) keys_alike ∙ ap (λ b. from_on key_cmp b c.args.keys.now) c.first_key.ensures)
+    ∙ ap (found_in (is_row_of c.args.tier c.args.subnet.now) c.args.rows.now) (run_all c.of_subnet-subject.result c.args.keys.now ordered)
+    ∙ ap (λ s. found_in (is_row_of c.args.tier c.args.subnet.now) c.args.rows.now (numbers_at c.args.keys.now s)) c.of_subnet-subject.ensures
+    ∙ found_first c.args.tier c.args.subnet.now c.args.rows.now c.args.keys.now c.requires c.len-rows.ensures.ordered ordered
+
+pub returns-then-is_of : goal.returns-then-is_of
+returns-then-is_of c =
+    let p = is_row_of c.args.tier c.args.subnet.now in
+    let s = c.of_subnet-subject.result in
+    sym (ap (λ b. cond b (Some (c.in-Some.key.number, c.in-Some-get.entry.now)) (found_in p c.args.rows.now (run_at s c.next.new.self))) (sym c.is_of.ensures ∙ c.if-is_of.true))
+    ∙ sym (found_step c.args.tier c.args.subnet.now c.args.rows.now c.in-Some.key.number (run_at s c.next.new.self) (Some c.in-Some-get.entry.now) c.in-Some-get.ensures)
+    ∙ sym (ap (λ rest. found_in p c.args.rows.now (run_at s rest)) c.in-Some.ensures.steps
+    ∙ ap (found_in p c.args.rows.now) (run_more s (c.in-Some.key, tt) c.next.new.self (sym c.is_under.ensures ∙ c.if-not-is_under.false)))
+    ∙ c.loop-key.invariant
+
+pub loop-key-preserved-else-is_of : goal.loop-key-preserved-else-is_of
+loop-key-preserved-else-is_of c =
+    let p = is_row_of c.args.tier c.args.subnet.now in
+    let s = c.of_subnet-subject.result in
+    sym (ap (λ b. cond b (Some (c.in-Some.key.number, c.in-Some-get.entry.now)) (found_in p c.args.rows.now (run_at s c.next.new.self))) (sym c.is_of.ensures ∙ c.if-is_of.false))
+    ∙ sym (found_step c.args.tier c.args.subnet.now c.args.rows.now c.in-Some.key.number (run_at s c.next.new.self) (Some c.in-Some-get.entry.now) c.in-Some-get.ensures)
+    ∙ sym (ap (λ rest. found_in p c.args.rows.now (run_at s rest)) c.in-Some.ensures.steps
+    ∙ ap (found_in p c.args.rows.now) (run_more s (c.in-Some.key, tt) c.next.new.self (sym c.is_under.ensures ∙ c.if-not-is_under.false)))
+    ∙ c.loop-key.invariant
+
+pub loop-key-preserved : goal.loop-key-preserved
+loop-key-preserved c =
+    let p = is_row_of c.args.tier c.args.subnet.now in
+    let s = c.of_subnet-subject.result in
+    sym (found_step c.args.tier c.args.subnet.now c.args.rows.now c.in-Some.key.number (run_at s c.next.new.self) None c.in_default.ensures)
+    ∙ sym (ap (λ rest. found_in p c.args.rows.now (run_at s rest)) c.in-Some.ensures.steps
+    ∙ ap (found_in p c.args.rows.now) (run_more s (c.in-Some.key, tt) c.next.new.self (sym c.is_under.ensures ∙ c.if-not-is_under.false)))
+    ∙ c.loop-key.invariant
