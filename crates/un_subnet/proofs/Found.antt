@@ -11,9 +11,9 @@ use Rattle.un_defs.proofs.LinkCases.{both_true}
 use Rattle.un_defs.proofs.Members.{list_any_from_among}
 use Rattle.un_subnet.specs.declared.row_index.Key.{Key}
 use Rattle.un_subnet.specs.Outcome.{is_row_of}
-use Rattle.un_subnet.specs.RowIndex.{same_subject, subnet_subject, subjects, concerns, numbers_at, found_row, IsIndex}
+use Rattle.un_subnet.specs.RowIndex.{same_subject, subnet_subject, subjects, concerns, numbers_at, numbers_with, found_row, IsIndex}
 use Rattle.un_subnet.proofs.Keys.{key_cmp, subject_itself}
-use Rattle.un_subnet.proofs.Numbered.{found_in, found_along, lookups_own}
+use Rattle.un_subnet.proofs.Numbered.{found_in, found_along, named_in, named_along, lookups_own}
 use Rattle.un_subnet.proofs.Indexed.{numbers_are, same_number}
 use Rattle.un_subnet.proofs.SameStar.{texts}
 
@@ -39,3 +39,18 @@ pub found_step : (tier : ℕ) (subnet : List ℕ) (rows : List (ℕ × StoredSub
     ≡ option_map_or (λ v. cond (is_row_of tier subnet v) (Some (n, v)) (found_in (is_row_of tier subnet) rows ns)) o (found_in (is_row_of tier subnet) rows ns)
 found_step tier subnet rows n ns o e =
     ap (λ o. option_map_or (λ v. cond (is_row_of tier subnet v) (Some (n, v)) (found_in (is_row_of tier subnet) rows ns)) o (found_in (is_row_of tier subnet) rows ns)) (sym e)
+
+-- ---- all of them
+
+pub named_all : (tier : ℕ) (subnet : List ℕ) (rows : List (ℕ × StoredSubnet)) (keys : List (Key × Unit {0})) → IsIndex rows keys → IsOrdered nat_cmp rows → IsOrdered key_cmp keys
+    → named_in (is_row_of tier subnet) rows (numbers_at keys (subnet_subject tier subnet)) ≡ numbers_with (is_row_of tier subnet) rows
+named_all tier subnet rows keys index a b =
+    ap (named_in (is_row_of tier subnet) rows) (numbers_are (subnet_subject tier subnet) rows keys index a b)
+    ∙ named_along (is_row_of tier subnet) (concerns (subnet_subject tier subnet)) (own_name tier subnet) rows rows (lookups_own rows a)
+
+-- one number along
+pub named_step : (tier : ℕ) (subnet : List ℕ) (rows : List (ℕ × StoredSubnet)) (n : ℕ) (ns : List ℕ) (o : Option StoredSubnet) → o ≡ lookup (is_at (nat_cmp n)) rows
+    → named_in (is_row_of tier subnet) rows (n ∷ ns)
+    ≡ option_map_or (λ v. cond (is_row_of tier subnet v) (n ∷ named_in (is_row_of tier subnet) rows ns) (named_in (is_row_of tier subnet) rows ns)) o (named_in (is_row_of tier subnet) rows ns)
+named_step tier subnet rows n ns o e =
+    ap (λ o. option_map_or (λ v. cond (is_row_of tier subnet v) (n ∷ named_in (is_row_of tier subnet) rows ns) (named_in (is_row_of tier subnet) rows ns)) o (named_in (is_row_of tier subnet) rows ns)) (sym e)

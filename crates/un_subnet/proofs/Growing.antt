@@ -1,7 +1,6 @@
 -- Lists that grow by what one more point or element gives.
-use Rattle.std.proofs.Common.{Bor, ◌≡◌, ℕ, ◌+◌, ◌<◌, Bool, true, false, not, ◌||◌, map, List, [], ◌∷◌, ◌++◌, filter, filter_map, flat_map, take, get_or, length, refl, sym, ap, ◌∙◌, append_assoc, Option, if◌then◌else◌}
-use Rattle.std.specs.List.{cons_option, list_any}
-use Rattle.std.specs.Map.Iter.{deref}
+use Rattle.std.proofs.Common.{◌≡◌, ℕ, ◌+◌, ◌<◌, Bool, true, false, not, map, List, [], ◌∷◌, ◌++◌, filter, filter_map, flat_map, take, get_or, length, refl, sym, ap, ◌∙◌, append_assoc, Option, if◌then◌else◌}
+use Rattle.std.specs.List.{cons_option}
 use Rattle.std.proofs.lemmas.List.{take_more, append-nil}
 use Rattle.std.proofs.lemmas.List.Elements.{filter-append, filter_map-append}
 use Rattle.std.proofs.lemmas.Grind.{flat_map-append}
@@ -52,8 +51,3 @@ one_gathered f xs i x found old o l is has =
 pub nodes_by_port : (F : Features) (cs : List Controller) → filter_map (node_at F) (map (λ c. c.port) cs) ≡ filter_map (λ c. node_at F c.port) cs
 nodes_by_port F [] = refl
 nodes_by_port F (c ∷ cs) = ap (cons_option (node_at F c.port)) (nodes_by_port F cs)
-
--- a test of what references lead to
-pub any_deref : {A : Type 0} (p : A → Bool) (xs : List (Bor A)) → list_any (λ (x : Bor A). p x.now) xs ≡ list_any p (map deref xs)
-any_deref p [] = refl
-any_deref p (x ∷ xs) = ap (λ b. p x.now || b) (any_deref p xs)

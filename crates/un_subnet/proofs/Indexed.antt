@@ -16,7 +16,7 @@ use Rattle.un_defs.proofs.Members.{among_from-filter, among-filter, among_from-m
 use Rattle.un_defs.proofs.LinkCases.{both_true, true_both}
 use Rattle.un_subnet.specs.declared.row_index.Subject.{Subject}
 use Rattle.un_subnet.specs.declared.row_index.Key.{Key}
-use Rattle.un_subnet.specs.RowIndex.{same_subject, same_key, concerns, has_key, numbers_at, is_concerned, IsIndex}
+use Rattle.un_subnet.specs.RowIndex.{same_subject, same_key, concerns, has_key, numbers_at, numbers_with, is_concerned, IsIndex}
 use Rattle.un_subnet.proofs.Keys.{key_cmp, number_above, subject_is, nat_same, nat_tie, is_equal}
 
 pub same_number : (a b : ℕ) → (a == b) ≡ true → a ≡ b
@@ -28,8 +28,8 @@ number_itself a = grind (arith, nat_tests)
 -- ---- the numbers that a subject concerns
 
 -- of the rows
-abbrev pub concerned_numbers : List (ℕ × StoredSubnet) → Subject → List ℕ
-concerned_numbers rows s = map (λ e. e.0) (filter (λ e. concerns s e.1) rows)
+abbrev concerned_numbers : List (ℕ × StoredSubnet) → Subject → List ℕ
+concerned_numbers rows s = numbers_with (concerns s) rows
 
 module _ (s : Subject) where
   numbers_above : (k : Key) (keys : List (Key × Unit {0})) → s ≡ k.subject → IsAbove key_cmp k keys → AllByRecursion (λ n. nat_cmp k.number n ≡ Less) (numbers_at keys s)
@@ -107,7 +107,7 @@ module _ (s : Subject) where
 
   -- the keys of a subject have the numbers of the rows that it concerns, rising
   pub numbers_are : (rows : List (ℕ × StoredSubnet)) (keys : List (Key × Unit {0})) → IsIndex rows keys → IsOrdered nat_cmp rows → IsOrdered key_cmp keys
-      → numbers_at keys s ≡ concerned_numbers rows s
+      → numbers_at keys s ≡ numbers_with (concerns s) rows
   numbers_are rows keys index a b =
       sorted_unique nat_cmp_total (numbers_at keys s) (concerned_numbers rows s) (numbers_sorted keys b) (concerned_sorted rows a)
       (λ n i. number_from_concerned rows n (sym (index (key_of n)) ∙ has_from_number keys n i))

@@ -7,13 +7,12 @@ use Rattle.std.specs.Map.{values_of}
 use Rattle.un_geom.specs.Places.{point_cmp}
 use Rattle.un_ask.specs.declared.stored.StoredSubnet.{StoredSubnet}
 use Rattle.un_subnet.specs.declared.row_index.Key.{Key}
-use Rattle.un_subnet.specs.Changes.{Changed}
 use Rattle.un_subnet.specs.Outcome.{is_row_of}
-use Rattle.un_subnet.specs.Stored.{marked, AreOrdered}
-use Rattle.un_subnet.specs.RowIndex.{IsIndex, AreKept, others_in, made_in}
+use Rattle.un_subnet.specs.Stored.{AreOrdered}
+use Rattle.un_subnet.specs.RowIndex.{IsIndex, AreKept, others_in, made_in, dirty}
 use Rattle.un_subnet.proofs.Numbered.{others_values}
 use Rattle.un_subnet.proofs.Made.{made_below, made_concerned}
-use Rattle.un_subnet.proofs.Marking.{marked_concerned, made_ordered}
+use Rattle.un_subnet.proofs.MarkedRows.{dirty_ordered}
 
 -- the points of a row are in order
 abbrev IsInOrder : StoredSubnet → Type 0
@@ -54,9 +53,9 @@ module _ (rows : List (ℕ × StoredSubnet)) (keys : List (Key × Unit {0})) (ne
     index = index;
   }
 
-  pub kept_marked : (changes : Changed) (numbers : List ℕ) → left ≡ made_in (marked changes) numbers rows → left_keys ≡ keys → AreKept left left_keys next
-  kept_marked changes numbers e same = subst (λ rows. AreKept rows left_keys next) (sym e) (subst (λ keys. AreKept (made_in (marked changes) numbers rows) keys next) (sym same) (record {
-    ordered = made_ordered changes numbers rows kept.ordered;
-    below = made_below (marked changes) numbers next rows kept.below;
-    index = λ q. kept.index q ∙ sym (made_concerned (marked changes) (marked_concerned changes) numbers q rows);
+  pub kept_marked : (numbers : List ℕ) → left ≡ made_in dirty numbers rows → left_keys ≡ keys → AreKept left left_keys next
+  kept_marked numbers e same = subst (λ rows. AreKept rows left_keys next) (sym e) (subst (λ keys. AreKept (made_in dirty numbers rows) keys next) (sym same) (record {
+    ordered = dirty_ordered numbers rows kept.ordered;
+    below = made_below dirty numbers next rows kept.below;
+    index = λ q. kept.index q ∙ sym (made_concerned dirty (λ q row. refl) numbers q rows);
   }))

@@ -9,7 +9,7 @@ pub mod Kept
 pub mod Keys
 pub mod Made
 pub mod MadeDirty
-pub mod Marking
+pub mod MarkedRows
 pub mod NoMemory
 pub mod Numbered
 pub mod Ordered

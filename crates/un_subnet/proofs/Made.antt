@@ -123,13 +123,8 @@ module _ (f : StoredSubnet → StoredSubnet) where
       by true = same q e.1
       by false = refl
 
-  -- where the others stay as they are, all rows are made
-  pub made_all : (ns : List ℕ) (rows : List (ℕ × StoredSubnet)) → AllByRecursion (λ e. list_any (λ m. m == e.0) ns ≡ false → f e.1 ≡ e.1) rows
-      → values_of (made_in f ns rows) ≡ map f (values_of rows)
-  made_all ns [] h = refl
-  made_all ns (e ∷ rows) h =
-      ap (λ v. v ∷ values_of (made_in f ns rows)) (by (list_any (λ m. m == e.0) ns) h.0) ∙ ap (λ l. f e.1 ∷ l) (made_all ns rows h.1)
-    where
-      by : (b : Bool) → (b ≡ false → f e.1 ≡ e.1) → (if b then f e.1 else e.1) ≡ f e.1
-      by true g = refl
-      by false g = sym (g refl)
+  -- all rows, where what is made of each is known
+  pub made_all : (g : StoredSubnet → StoredSubnet) (ns : List ℕ) (rows : List (ℕ × StoredSubnet))
+      → AllByRecursion (λ e. (if list_any (λ m. m == e.0) ns then f e.1 else e.1) ≡ g e.1) rows → values_of (made_in f ns rows) ≡ map g (values_of rows)
+  made_all g ns [] h = refl
+  made_all g ns (e ∷ rows) h = ap (λ v. v ∷ values_of (made_in f ns rows)) h.0 ∙ ap (λ l. g e.1 ∷ l) (made_all g ns rows h.1)

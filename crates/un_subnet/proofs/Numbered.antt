@@ -1,5 +1,5 @@
 -- Rows under rising numbers: look-ups, one more, one less, and a search.
-use Rattle.std.proofs.Common.{◌≡◌, ℕ, ◌<◌, ◌+◌, Bool, true, false, not, ◌||◌, List, [], ◌∷◌, ◌++◌, map, find, length, Option, Some, None, cond, refl, sym, ◌∙◌, ap, subst, arith, true≢false}
+use Rattle.std.proofs.Common.{◌≡◌, ℕ, ◌<◌, ◌+◌, Bool, true, false, not, ◌==◌, ◌||◌, List, [], ◌∷◌, ◌++◌, map, find, length, Option, Some, None, cond, refl, sym, ◌∙◌, ap, subst, arith, true≢false}
 use Rattle.std.proofs.lemmas.Bool.Decides.{nat_tests}
 use Rattle.std.specs.declared.cmp.Ordering.TheVariants.{Less, Greater}
 use Rattle.std.specs.Ordering.{nat_cmp, is_eq, match_ordering, ordering_reverse}
@@ -10,6 +10,7 @@ use Rattle.std.specs.Map.{values_of, lookup, remove_entry}
 use Rattle.std.specs.Option.{option_map_or, option_map, is_some}
 use Rattle.std.specs.BTreeMap.{is_at, insert_entry}
 use Rattle.un_pages.specs.Pairs.{IsOrdered, IsAbove}
+use Rattle.un_subnet.proofs.Keys.{nat_same}
 
 other : (k n : ℕ) → nat_cmp k n ≡ Less → is_eq (nat_cmp n k) ≡ false
 other k n h = ap is_eq (nat_cmp_total.antisymm n k ∙ ap ordering_reverse h)
@@ -145,3 +146,55 @@ module _ {V : Type 0} where
             ∙ ap (cond c (Some e)) ih
         by false true t u ih = absurd (true≢false (sym (all e.1 u) ∙ t))
         by false false t u ih = ih
+
+    -- the numbers of these rows that pass
+    abbrev pub named_in : List (ℕ × V) → List ℕ → List ℕ
+    named_in rows [] = []
+    named_in rows (n ∷ ns) = option_map_or (λ v. cond (p v) (n ∷ named_in rows ns) (named_in rows ns)) (lookup (is_at (nat_cmp n)) rows) (named_in rows ns)
+
+    pub named_along : (q : V → Bool) → ((v : V) → p v ≡ true → q v ≡ true) → (rows es : List (ℕ × V)) → AllByRecursion (λ e. lookup (is_at (nat_cmp e.0)) rows ≡ Some e.1) es
+        → named_in rows (map (λ e. e.0) (filter (λ e. q e.1) es)) ≡ map (λ e. e.0) (filter (λ e. p e.1) es)
+    named_along q all rows [] own = refl
+    named_along q all rows (e ∷ es) own = by (q e.1) (p e.1) refl refl (named_along q all rows es own.1)
+      where
+        by : (b c : Bool) → q e.1 ≡ b → p e.1 ≡ c → named_in rows (map (λ e. e.0) (filter (λ e. q e.1) es)) ≡ map (λ e. e.0) (filter (λ e. p e.1) es)
+            → named_in rows (map (λ e. e.0) (cond b (e ∷ filter (λ e. q e.1) es) (filter (λ e. q e.1) es))) ≡ map (λ e. e.0) (cond c (e ∷ filter (λ e. p e.1) es) (filter (λ e. p e.1) es))
+        by true c t u ih =
+            ap (λ o. option_map_or (λ v. cond (p v) (e.0 ∷ named_in rows (map (λ e. e.0) (filter (λ e. q e.1) es))) (named_in rows (map (λ e. e.0) (filter (λ e. q e.1) es)))) o
+            (named_in rows (map (λ e. e.0) (filter (λ e. q e.1) es)))) own.0
+            ∙ ap (λ b. cond b (e.0 ∷ named_in rows (map (λ e. e.0) (filter (λ e. q e.1) es))) (named_in rows (map (λ e. e.0) (filter (λ e. q e.1) es)))) u
+            ∙ ap (λ l. cond c (e.0 ∷ l) l) ih ∙ either c
+          where
+            either : (c : Bool) → cond c (e.0 ∷ map (λ e. e.0) (filter (λ e. p e.1) es)) (map (λ e. e.0) (filter (λ e. p e.1) es)) ≡ map (λ e. e.0) (cond c (e ∷ filter (λ e. p e.1) es) (filter (λ e. p e.1) es))
+            either true = refl
+            either false = refl
+        by false true t u ih = absurd (true≢false (sym (all e.1 u) ∙ t))
+        by false false t u ih = ih
+
+    -- a row's number is one of those just where the row passes
+    pub own_passes : (rows : List (ℕ × V)) → IsOrdered nat_cmp rows → AllByRecursion (λ e. list_any (λ n. n == e.0) (map (λ e. e.0) (filter (λ e. p e.1) rows)) ≡ p e.1) rows
+    unfolding IsStrictlySortedBy
+    own_passes [] s = tt
+    own_passes (e ∷ rows) s = (here (p e.1), behind rows s.0 (own_passes rows s.1))
+      where
+        none : (fs : List (ℕ × V)) → IsAbove nat_cmp e.0 fs → list_any (λ n. n == e.0) (map (λ e. e.0) (filter (λ e. p e.1) fs)) ≡ false
+        none [] a = refl
+        none (f ∷ fs) a = by (p f.1) (none fs a.1)
+          where
+            by : (b : Bool) → list_any (λ n. n == e.0) (map (λ e. e.0) (filter (λ e. p e.1) fs)) ≡ false
+                → list_any (λ n. n == e.0) (map (λ e. e.0) (cond b (f ∷ filter (λ e. p e.1) fs) (filter (λ e. p e.1) fs))) ≡ false
+            by true ih = ap (λ b. b || list_any (λ n. n == e.0) (map (λ e. e.0) (filter (λ e. p e.1) fs))) (sym (nat_same f.0 e.0) ∙ other e.0 f.0 a.0) ∙ ih
+            by false ih = ih
+
+        here : (b : Bool) → list_any (λ n. n == e.0) (map (λ e. e.0) (cond b (e ∷ filter (λ e. p e.1) rows) (filter (λ e. p e.1) rows))) ≡ b
+        here true = ap (λ b. b || list_any (λ n. n == e.0) (map (λ e. e.0) (filter (λ e. p e.1) rows))) (sym (nat_same e.0 e.0) ∙ itself e.0)
+        here false = none rows s.0
+
+        behind : (fs : List (ℕ × V)) → IsAbove nat_cmp e.0 fs → AllByRecursion (λ f. list_any (λ n. n == f.0) (map (λ e. e.0) (filter (λ e. p e.1) rows)) ≡ p f.1) fs
+            → AllByRecursion (λ f. list_any (λ n. n == f.0) (map (λ e. e.0) (filter (λ e. p e.1) (e ∷ rows))) ≡ p f.1) fs
+        behind [] a h = tt
+        behind (f ∷ fs) a h = (by (p e.1), behind fs a.1 h.1)
+          where
+            by : (b : Bool) → list_any (λ n. n == f.0) (map (λ e. e.0) (cond b (e ∷ filter (λ e. p e.1) rows) (filter (λ e. p e.1) rows))) ≡ p f.1
+            by true = ap (λ b. b || list_any (λ n. n == f.0) (map (λ e. e.0) (filter (λ e. p e.1) rows))) (sym (nat_same e.0 f.0) ∙ ap is_eq a.0) ∙ h.0
+            by false = h.0

@@ -1,9 +1,10 @@
 -- The stored rows by their numbers, and the keys under which a row is looked up.
-use Rattle.std.specs.Prelude.{ℕ, ◌+◌, ◌*◌, ◌^◌, ◌%◌, ◌<◌, ◌==◌, ◌≡◌, Bool, false, not, ◌&&◌, if◌then◌else◌, List, ◌∷◌, ◌++◌, map, filter, find, fold, Option}
+use Rattle.std.specs.Prelude.{ℕ, ◌+◌, ◌*◌, ◌^◌, ◌%◌, ◌<◌, ◌==◌, ◌≡◌, Bool, false, not, ◌&&◌, if◌then◌else◌, List, ◌∷◌, ◌++◌, map, filter, find, flat_map, fold, Option}
 use Rattle.std.specs.List.{list_any, AllByRecursion}
 use Rattle.std.specs.Map.{values_of}
 use Rattle.un_geom.specs.Places.{same_point}
 use Rattle.un_ask.specs.declared.stored.StoredSubnet.{StoredSubnet}
+use Rattle.un_ask.specs.declared.stored.Status.TheVariants.{Dirty}
 use Rattle.un_subnet.specs.declared.row_index.Subject.{Subject}
 use Rattle.un_subnet.specs.declared.row_index.Subject.TheVariants.{Subnet, At}
 use Rattle.un_subnet.specs.declared.row_index.Key.{Key}
@@ -37,10 +38,6 @@ subjects row = subnet_subject row.tier row.subnet ∷ map At row.points
 abbrev pub concerns : Subject → StoredSubnet → Bool
 concerns s row = list_any (same_subject s) (subjects row)
 
--- what the changes of stars concern: the points, and the subnetworks of the controllers
-abbrev pub changed_subjects : Changed → List Subject
-changed_subjects changes = map At changes.points ++ map (λ c. subnet_subject c.tier c.subnet) changes.controllers
-
 -- ---- the keys
 
 abbrev pub same_key : Key → Key → Bool
@@ -72,6 +69,18 @@ pub record AreKept (rows : List (ℕ × StoredSubnet)) (keys : List (Key × Unit
 -- those with these numbers as f makes them
 abbrev pub made_in : (StoredSubnet → StoredSubnet) → List ℕ → List (ℕ × StoredSubnet) → List (ℕ × StoredSubnet)
 made_in f numbers rows = map (λ e. (e.0, if list_any (λ n. n == e.0) numbers then f e.1 else e.1)) rows
+
+-- the numbers of those that pass a test
+abbrev pub numbers_with : (StoredSubnet → Bool) → List (ℕ × StoredSubnet) → List ℕ
+numbers_with p rows = map (λ e. e.0) (filter (λ e. p e.1) rows)
+
+-- the numbers of those at the points that have changed, and of those of the controllers' subnetworks
+abbrev pub changed_numbers : List (ℕ × StoredSubnet) → List (Key × Unit {0}) → Changed → List ℕ
+changed_numbers rows keys changes =
+    flat_map (λ p. numbers_at keys (At p)) changes.points ++ flat_map (λ c. numbers_with (is_row_of c.tier c.subnet) rows) changes.controllers
+
+abbrev pub dirty : StoredSubnet → StoredSubnet
+dirty row = record row { status = Dirty }
 
 -- the first row of a subnetwork
 abbrev pub found_row : List (ℕ × StoredSubnet) → ℕ → List ℕ → Option (ℕ × StoredSubnet)

@@ -1,25 +1,18 @@
 //! What makes stored rows dirty.
 
 ghost use Rattle.std.specs.Prelude.{◌≡◌, ◌++◌, map, not, IfOk, OnOk};
-ghost use Rattle.std.specs.List.{list_any};
 ghost use Rattle.std.specs.List.Sorted.{IsStrictlySortedBy};
 ghost use Rattle.std.specs.Map.Iter.{deref};
 ghost use Rattle.std.specs.Option.{option_copied};
-ghost use Rattle.un_geom.specs.Places.{point_cmp, same_point};
-ghost use Rattle.un_defs.specs.Features.{is_of_subnet};
 ghost use Rattle.un_subnet.specs.SameStar.{same_star};
-ghost use Rattle.un_subnet.specs.RowIndex.{changed_subjects};
-ghost use Rattle.un_subnet.specs.Changes.{star_or_empty, is_empty_star, controllers_in, with_point, gathered_at, changes_at, has_any, is_at_point, is_made_dirty};
+ghost use Rattle.un_subnet.specs.Changes.{star_or_empty, is_empty_star, controllers_in, with_point, gathered_at, changes_at};
 
-use crate::row_index::Subject;
 use crate::same_star::is_same_star;
 use crate::sorted::sorted_points;
 use std::alloc::{AllocError, Global};
 use std::marker::Model;
-use un_ask::StoredSubnet;
 use un_defs::{Controller, Ground, Star};
 use un_geom::Point;
-use un_schema::Name;
 
 /// The points whose stars a validation has changed, and the controllers that these stars had before or have now.
 #[derive(Drop)]
@@ -97,37 +90,6 @@ fn add_controllers<'a>(
     Ok(())
 }
 
-fn is_of_subnet(controller: &Controller, tier: u8, subnet: &Name) -> bool
-    ensures { result ≡ is_of_subnet tier subnet.now controller.now }
-{
-    controller.tier == tier && subnet.text() == controller.subnet.text()
-}
-
-/// Whether one of the controllers is of the subnetwork.
-fn is_any_of_subnet(controllers: &[&Controller], tier: u8, subnet: &Name) -> bool
-    ensures { result ≡ list_any (λ c. is_of_subnet tier subnet.now c.now) controllers.now }
-{
-    controllers
-        .iter()
-        .any(|controller| is_of_subnet(controller, tier, subnet))
-}
-
-/// Whether the point is one of some points in order.
-fn has_point(points: &[Point], point: Point) -> bool
-    requires { IsStrictlySortedBy point_cmp points.now }
-    ensures { result ≡ list_any (same_point point) points.now }
-{
-    points.binary_search(&point).is_ok()
-}
-
-/// Whether one of the points is among others, which are in order.
-fn has_any(points: &[Point], among: &[Point]) -> bool
-    requires { IsStrictlySortedBy point_cmp among.now }
-    ensures { result ≡ has_any points.now among.now }
-{
-    points.iter().any(|point| has_point(among, *point))
-}
-
 impl<'a> Gathered<'a> {
     /// Adds the point if its star has changed.
     fn add(
@@ -169,51 +131,18 @@ fn gather<'a, G: Ground, H: Ground>(
 }
 
 impl<'a> StarChanges<'a> {
-    /// Whether a change is at one of the row's points, which are in order. The fewer points are looked for among the others.
-    fn are_at_point(&self, row: &StoredSubnet) -> bool
-        requires { IsStrictlySortedBy point_cmp row.now.points }
-        ensures { result ≡ is_at_point row.now.points self.now }
+    /// The points, rising.
+    pub(crate) fn points(&self) -> &[Point]
+        ensures { result.now ≡ self.now.points }
     {
-        let points = row.points.as_slice();
-        if self.points.len() <= points.len() {
-            has_any(&self.points, points)
-        } else {
-            has_any(points, &self.points)
-        }
+        self.points.as_slice()
     }
 
-    /// Whether a star that has changed had or has a controller of the row's subnetwork.
-    fn have_controller_of(&self, row: &StoredSubnet) -> bool
-        ensures { result ≡ list_any (is_of_subnet row.now.tier row.now.subnet) self.now.controllers }
+    /// The controllers, some of them more than once.
+    pub(crate) fn controllers(&self) -> &[&'a Controller]
+        ensures { map deref result.now ≡ self.now.controllers }
     {
-        is_any_of_subnet(&self.controllers, row.tier, &row.subnet)
-    }
-
-    /// Whether they make the stored row dirty: a star has changed at one of its points, or one that had or has a controller of its
-    /// subnetwork. The row's points are in order, as an update stores them.
-    ///
-    /// It takes a binary search for each point that has changed, or for each of the row's points if these are fewer.
-    pub fn make_dirty(&self, row: &StoredSubnet) -> bool
-        requires { IsStrictlySortedBy point_cmp row.now.points }
-        ensures { result ≡ is_made_dirty row.now.tier row.now.subnet row.now.points self.now }
-    {
-        self.are_at_point(row) || self.have_controller_of(row)
-    }
-}
-
-impl<'a> StarChanges<'a> {
-    /// What they concern: each point, and the subnetwork of each controller.
-    pub(crate) fn subjects(&self, alloc: Global) -> Result<Vec<Subject>, AllocError>
-        ensures { IfOk result (λ subjects. subjects.items ≡ changed_subjects self.now) }
-    {
-        let mut subjects = Vec::new(alloc);
-        for point in self.points.as_slice() {
-            subjects.push(Subject::At(*point))?;
-        }
-        for controller in self.controllers.as_slice() {
-            subjects.push(Subject::of_subnet(controller.tier, &controller.subnet))?;
-        }
-        Ok(subjects)
+        self.controllers.as_slice()
     }
 }
 

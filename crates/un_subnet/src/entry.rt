@@ -1,12 +1,10 @@
 //! A stored row, whose status alone changes.
 
 ghost use Rattle.std.specs.Prelude.{◌≡◌, unwrap_or, IfOk};
-ghost use Rattle.std.specs.List.Sorted.{IsStrictlySortedBy};
-ghost use Rattle.un_geom.specs.Places.{point_cmp};
 ghost use Rattle.un_subnet.specs.Outcome.{is_row_of};
-ghost use Rattle.un_subnet.specs.Stored.{under, marked};
+ghost use Rattle.un_subnet.specs.Stored.{under};
+ghost use Rattle.un_subnet.specs.RowIndex.{dirty};
 
-use crate::changes::StarChanges;
 use std::alloc::{AllocError, Global};
 use std::marker::Model;
 use std::sync::Arc;
@@ -45,12 +43,11 @@ impl Entry {
         self.row.tier == tier && subnet.text() == self.row.subnet.text()
     }
 
-    /// The row once stars have changed, or none where that leaves it as it is.
-    pub(crate) fn marked(&self, changes: &StarChanges<'_>) -> Result<Option<Entry>, AllocError>
-        requires { IsStrictlySortedBy point_cmp self.now.points }
-        ensures { IfOk result (λ entry. unwrap_or entry self.now ≡ marked changes.now self.now) }
+    /// The same row, dirty, or none where it is dirty already.
+    pub(crate) fn dirty(&self) -> Result<Option<Entry>, AllocError>
+        ensures { IfOk result (λ entry. unwrap_or entry self.now ≡ dirty self.now) }
     {
-        if self.status == Status::Dirty || !changes.make_dirty(&self.row) {
+        if self.status == Status::Dirty {
             return Ok(None);
         }
         Ok(Some(Entry {

@@ -21,8 +21,8 @@
 //!
 //! For the status, [`changes::star_changes`] compares the two stars of each point that was looked at, before and after, part by part
 //! ([`same_star::is_same_star`]). It keeps the points whose stars differ, and the controllers that these stars had before or have now. A row
-//! becomes dirty if one of these points is among its own, for which a binary search does, or if one of these controllers is of its subnetwork
-//! ([`changes::StarChanges::make_dirty`]).
+//! becomes dirty if one of these points is among its own, or if one of these controllers is of its subnetwork. The stored rows have keys by
+//! their points and their subnetworks, under which those rows are looked up ([`stored::StoredRows::marked`]).
 //!
 //! # Why that is enough
 //!
@@ -33,8 +33,9 @@
 //! # What it costs
 //!
 //! Beside the walk, at most one look-up of a star for each reached node, and where there are several controllers at most one more walk. Sorting
-//! the row's lists takes n log n steps. For the status, two look-ups and one comparison for each point that is looked at. A stored row takes one
-//! binary search for each point that has changed, or for each of its own points if these are fewer.
+//! the row's lists takes n log n steps, and storing it takes a look-up in the keys for each point of the old row and of the new one. For the
+//! status, two look-ups and one comparison for each point that is looked at, and then a look-up in the keys for each point that has changed and
+//! each controller there, and one for each row that it finds. No step is taken for a stored row that this does not concern ([`stored`]).
 #![tactic(auto)]
 
 mod alone;
@@ -44,6 +45,7 @@ pub mod changes;
 mod conflict;
 mod entry;
 pub mod laws;
+mod marking;
 mod row;
 mod row_index;
 pub mod same_star;

@@ -4,7 +4,7 @@
 //! rising number. Of a name the map keeps a hash alone: whether a row is of the subnetwork says its own name. Names with the same hash share a
 //! run, and cost a look-up of a row each.
 
-ghost use Rattle.std.specs.Prelude.{◌≡◌, ◌∷◌, ◌++◌, [], not, ◌==◌, ◌&&◌, ◌||◌, map, flat_map, IfOk, OnOk};
+ghost use Rattle.std.specs.Prelude.{◌≡◌, ◌∷◌, ◌++◌, [], not, ◌==◌, ◌&&◌, ◌||◌, OnOk};
 ghost use Rattle.std.specs.List.{list_any};
 ghost use Rattle.un_subnet.specs.RowIndex.{mixed, name_hash, subnet_subject, same_subject, same_key, has_key, concerns, numbers_at};
 
@@ -134,7 +134,7 @@ pub(crate) fn first_key(subject: Subject) -> Bound<Key>
 }
 
 /// Adds the numbers of the rows that a subject concerns, rising.
-fn push_numbers(
+pub(crate) fn push_numbers(
     keys: &Paged<Key, ()>,
     subject: Subject,
     numbers: &mut Vec<u64>,
@@ -150,19 +150,4 @@ fn push_numbers(
         numbers.push(key.number)?;
     }
     Ok(())
-}
-
-/// The numbers of the rows that some subjects concern, one subject after another.
-pub(crate) fn numbers_of(
-    alloc: Global,
-    keys: &Paged<Key, ()>,
-    subjects: &[Subject],
-) -> Result<Vec<u64>, AllocError>
-    ensures { IfOk result (λ numbers. numbers.items ≡ flat_map (numbers_at keys.now) subjects.now) }
-{
-    let mut numbers = Vec::new(alloc);
-    for subject in subjects {
-        push_numbers(keys, *subject, &mut numbers)?;
-    }
-    Ok(numbers)
 }

@@ -10,18 +10,19 @@
 //! The rows stand in an ordered map on shared pages, by a number that rises from update to update. A second map holds a key for each row and
 //! each subject that concerns it: its subnetwork and its points (`row_index`). A look-up goes over the keys of the name to the first row of
 //! that name. An update takes the old row and its keys out, and puts the new ones in. A validation looks up the rows at each point that has
-//! changed, and those of the subnetwork of each controller that a changed star had or has, and tests these rows alone.
+//! changed, and those of the subnetwork of each controller that a changed star had or has, and makes them dirty (`marking`).
 //!
 //! # Why that is enough
 //!
 //! The keys are those that the rows tell, and no others. A row becomes dirty by a change at one of its points or of a controller of its
-//! subnetwork, so it has a key under what has changed.
+//! subnetwork, so it has a key under what has changed. Each new row has the greatest number, so the order of the numbers is that of the updates.
 //!
 //! # What it costs
 //!
-//! A look-up takes time by the logarithm of the count of keys. An update does so for each point of the old row and of the new one. A validation
-//! does so for each changed point and controller and for each row that it finds there; a row that is not dirty yet is tested once more, by a
-//! binary search for each changed point, or for each of its own points if these are fewer. What is not touched is shared with the rows before.
+//! A look-up takes time by the logarithm of the count of keys, and so does each key that is put in or taken out. An update has one for the
+//! subnetwork and one for each point of the old row and of the new one. A validation takes such a look-up for each point that has changed and
+//! each controller, and a step and a look-up of a row for each row that it finds. The first change of a page copies it, with the nodes on the
+//! way to it; later ones of the same call are made in place; all other pages are shared with the rows before. A key takes 32 bytes.
 
 ghost use Rattle.std.specs.Prelude.{◌≡◌, ◌<◌, ◌∷◌, ◌++◌, [], map, length, IfOk, OnOk, IfSome};
 ghost use Rattle.std.specs.List.{AllByRecursion};
@@ -33,11 +34,12 @@ ghost use Rattle.std.specs.Option.{option_copied, option_map};
 ghost use Rattle.un_geom.specs.Places.{point_cmp};
 ghost use Rattle.un_subnet.specs.Outcome.{is_row_of, has_row, other_rows};
 ghost use Rattle.un_subnet.specs.Stored.{row_for, under, with_row, marked, AreOrdered};
-ghost use Rattle.un_subnet.specs.RowIndex.{IsIndex, changed_subjects, found_row, others_in, made_in};
+ghost use Rattle.un_subnet.specs.RowIndex.{IsIndex, found_row, others_in};
 
 use crate::changes::StarChanges;
 use crate::entry::Entry;
-use crate::row_index::{Key, Subject, first_key, numbers_of, put_keys, take_keys};
+use crate::marking::{changed_numbers, mark_all};
+use crate::row_index::{Key, Subject, first_key, put_keys, take_keys};
 use std::alloc::{AllocError, Global};
 use std::marker::Model;
 use std::sync::Arc;
@@ -127,43 +129,6 @@ fn add_row(
     put_keys(alloc, keys, number, &row)?;
     let entry = Entry::new(alloc, row)?;
     rows.put(alloc, number, Arc::new(alloc, entry)?)?;
-    Ok(())
-}
-
-/// The row with this number, once stars have changed.
-fn mark(
-    alloc: Global,
-    rows: &mut Paged<u64, Entry>,
-    number: u64,
-    changes: &StarChanges<'_>,
-) -> Result<(), AllocError>
-    requires { AreOrdered (values_of rows.old) }
-    ensures { OnOk result (rows.new ≡ made_in (marked changes.now) (number ∷ []) rows.old) }
-{
-    // For the proof alone.
-    let _len = rows.len();
-    let Some(entry) = rows.get(&number) else {
-        return Ok(());
-    };
-    if let Some(entry) = entry.marked(changes)? {
-        rows.put(alloc, number, Arc::new(alloc, entry)?)?;
-    }
-    Ok(())
-}
-
-/// The rows with these numbers, once stars have changed.
-fn mark_all(
-    alloc: Global,
-    rows: &mut Paged<u64, Entry>,
-    numbers: &[u64],
-    changes: &StarChanges<'_>,
-) -> Result<(), AllocError>
-    requires { AreOrdered (values_of rows.old) }
-    ensures { OnOk result (rows.new ≡ made_in (marked changes.now) numbers.now rows.old) }
-{
-    for number in numbers {
-        mark(alloc, rows, *number, changes)?;
-    }
     Ok(())
 }
 
@@ -285,12 +250,11 @@ impl StoredRows {
         ensures { IfOk result (λ rows. rows ≡ map (marked changes.now) self.now) }
     {
         // For the proof alone.
-        let _len = self.rows.len();
-        let subjects = changes.subjects(alloc)?;
-        let numbers = numbers_of(alloc, &self.keys, &subjects)?;
+        let (_rows, _keys) = (self.rows.len(), self.keys.len());
+        let numbers = changed_numbers(alloc, &self.rows, &self.keys, changes)?;
         let mut rows = self.rows.share()?;
         let keys = self.keys.share()?;
-        mark_all(alloc, &mut rows, &numbers, changes)?;
+        mark_all(alloc, &mut rows, &numbers)?;
         Ok(StoredRows {
             rows,
             keys,
