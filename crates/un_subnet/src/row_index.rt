@@ -4,8 +4,7 @@
 //! rising number. Of a name the map keeps a hash alone: whether a row is of the subnetwork says its own name. Names with the same hash share a
 //! run, and cost a look-up of a row each.
 
-ghost use Rattle.std.specs.Prelude.{◌≡◌, ◌∷◌, ◌++◌, [], not, ◌==◌, ◌&&◌, ◌||◌, OnOk};
-ghost use Rattle.std.specs.List.{list_any};
+ghost use Rattle.std.specs.Prelude.{◌≡◌, ◌++◌, not, ◌==◌, ◌&&◌, ◌||◌, OnOk};
 ghost use Rattle.un_subnet.specs.RowIndex.{mixed, name_hash, subnet_subject, same_subject, same_key, has_key, concerns, numbers_at};
 
 use std::alloc::{AllocError, Global};
@@ -32,6 +31,7 @@ pub(crate) struct Key {
     pub(crate) number: u64,
 }
 
+/// A hash with one more byte.
 fn mixed(hash: u64, byte: u8) -> u64
     ensures { result ≡ mixed hash byte }
 {
@@ -39,6 +39,7 @@ fn mixed(hash: u64, byte: u8) -> u64
         .wrapping_add(u64::from(byte))
 }
 
+/// The hash of a subnetwork's tier and name.
 fn name_hash(tier: u8, subnet: &Name) -> u64
     ensures { result ≡ name_hash tier subnet.now }
 {
@@ -50,6 +51,7 @@ fn name_hash(tier: u8, subnet: &Name) -> u64
 }
 
 impl Subject {
+    /// The subject of a subnetwork, which others with the same hash share.
     pub(crate) fn of_subnet(tier: u8, subnet: &Name) -> Subject
         ensures { result ≡ subnet_subject tier subnet.now }
     {

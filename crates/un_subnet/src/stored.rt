@@ -22,7 +22,7 @@
 //! A look-up takes time by the logarithm of the count of keys, and so does each key that is put in or taken out. An update has one for the
 //! subnetwork and one for each point of the old row and of the new one. A validation takes such a look-up for each point that has changed and
 //! each controller, and a step and a look-up of a row for each row that it finds. The first change of a page copies it, with the nodes on the
-//! way to it; later ones of the same call are made in place; all other pages are shared with the rows before. A key takes 32 bytes.
+//! way to it; later ones of the same call are made in place; all other pages are shared with the rows before. A key takes some 32 bytes.
 
 ghost use Rattle.std.specs.Prelude.{◌≡◌, ◌<◌, ◌∷◌, ◌++◌, [], map, length, IfOk, OnOk, IfSome};
 ghost use Rattle.std.specs.List.{AllByRecursion};
@@ -30,9 +30,9 @@ ghost use Rattle.std.specs.List.Sorted.{IsStrictlySortedBy};
 ghost use Rattle.std.specs.BTreeMap.{is_at};
 ghost use Rattle.std.specs.Map.{values_of, remove_entry};
 ghost use Rattle.std.specs.Ordering.{nat_cmp};
-ghost use Rattle.std.specs.Option.{option_copied, option_map};
+ghost use Rattle.std.specs.Option.{option_map};
 ghost use Rattle.un_geom.specs.Places.{point_cmp};
-ghost use Rattle.un_subnet.specs.Outcome.{is_row_of, has_row, other_rows};
+ghost use Rattle.un_subnet.specs.Outcome.{has_row, other_rows};
 ghost use Rattle.un_subnet.specs.Stored.{row_for, under, with_row, marked, AreOrdered};
 ghost use Rattle.un_subnet.specs.RowIndex.{IsIndex, found_row, others_in};
 
@@ -216,14 +216,17 @@ impl StoredRows {
     }
 
     /// The rows with this one behind them. Where the numbers are used up, there is no room for it.
-    fn added(&self, alloc: Global, row: StoredSubnet) -> Result<StoredRows, AllocError>
+    fn added(self, alloc: Global, row: StoredSubnet) -> Result<StoredRows, AllocError>
         requires { IsStrictlySortedBy point_cmp row.points }
-        ensures { IfOk result (λ rows. rows ≡ self.now ++ row ∷ []) }
+        ensures { IfOk result (λ rows. rows ≡ self ++ row ∷ []) }
     {
-        let next = self.next.checked_add(1).ok_or(AllocError)?;
-        let mut rows = self.rows.share()?;
-        let mut keys = self.keys.share()?;
-        add_row(alloc, &mut rows, &mut keys, self.next, row)?;
+        let StoredRows {
+            mut rows,
+            mut keys,
+            next: number,
+        } = self;
+        let next = number.checked_add(1).ok_or(AllocError)?;
+        add_row(alloc, &mut rows, &mut keys, number, row)?;
         Ok(StoredRows { rows, keys, next })
     }
 
