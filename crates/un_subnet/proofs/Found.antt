@@ -1,5 +1,5 @@
 -- The first row of a subnetwork is found along the numbers of its name.
-use Rattle.std.proofs.Common.{◌≡◌, ℕ, ◌==◌, true, List, ◌∷◌, inl, Option, Some, cond, refl, sym, ◌∙◌, ap, subst}
+use Rattle.std.proofs.Common.{◌≡◌, ℕ, ◌==◌, true, List, ◌∷◌, inl, Option, Some, cond, refl, sym, ◌∙◌, ap, subst, Bool, false, None}
 use Rattle.std.specs.Ordering.{nat_cmp}
 use Rattle.std.specs.Option.{option_map_or}
 use Rattle.std.specs.Map.{lookup}
@@ -49,8 +49,11 @@ named_all tier subnet rows keys index a b =
     ∙ named_along (is_row_of tier subnet) (concerns (subnet_subject tier subnet)) (own_name tier subnet) rows rows (lookups_own rows a)
 
 -- one number along
-pub named_step : (tier : ℕ) (subnet : List ℕ) (rows : List (ℕ × StoredSubnet)) (n : ℕ) (ns : List ℕ) (o : Option StoredSubnet) → o ≡ lookup (is_at (nat_cmp n)) rows
-    → named_in (is_row_of tier subnet) rows (n ∷ ns)
-    ≡ option_map_or (λ v. cond (is_row_of tier subnet v) (n ∷ named_in (is_row_of tier subnet) rows ns) (named_in (is_row_of tier subnet) rows ns)) o (named_in (is_row_of tier subnet) rows ns)
-named_step tier subnet rows n ns o e =
-    ap (λ o. option_map_or (λ v. cond (is_row_of tier subnet v) (n ∷ named_in (is_row_of tier subnet) rows ns) (named_in (is_row_of tier subnet) rows ns)) o (named_in (is_row_of tier subnet) rows ns)) (sym e)
+pub named_step : (tier : ℕ) (subnet : List ℕ) (rows : List (ℕ × StoredSubnet)) (n : ℕ) (ns : List ℕ) (b : Bool) → b ≡ option_map_or (is_row_of tier subnet) (lookup (is_at (nat_cmp n)) rows) false
+    → named_in (is_row_of tier subnet) rows (n ∷ ns) ≡ cond b (n ∷ named_in (is_row_of tier subnet) rows ns) (named_in (is_row_of tier subnet) rows ns)
+named_step tier subnet rows n ns b e = by (lookup (is_at (nat_cmp n)) rows) ∙ ap (λ b. cond b (n ∷ named_in (is_row_of tier subnet) rows ns) (named_in (is_row_of tier subnet) rows ns)) (sym e)
+  where
+    by : (o : Option StoredSubnet) → option_map_or (λ v. cond (is_row_of tier subnet v) (n ∷ named_in (is_row_of tier subnet) rows ns) (named_in (is_row_of tier subnet) rows ns)) o (named_in (is_row_of tier subnet) rows ns)
+        ≡ cond (option_map_or (is_row_of tier subnet) o false) (n ∷ named_in (is_row_of tier subnet) rows ns) (named_in (is_row_of tier subnet) rows ns)
+    by None = refl
+    by (Some v) = refl

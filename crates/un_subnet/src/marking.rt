@@ -4,7 +4,11 @@
 //! stand under the keys of its name, where names with the same hash may stand too. The numbers of all these rows are gathered, some of them
 //! more than once, and then each of the rows is made dirty that is not so already.
 
-ghost use Rattle.std.specs.Prelude.{◌≡◌, ◌∷◌, ◌++◌, [], flat_map, IfOk, OnOk};
+ghost use Rattle.std.specs.Prelude.{◌≡◌, ◌∷◌, ◌++◌, [], false, flat_map, IfOk, OnOk};
+ghost use Rattle.std.specs.BTreeMap.{is_at};
+ghost use Rattle.std.specs.Map.{lookup};
+ghost use Rattle.std.specs.Option.{option_map_or};
+ghost use Rattle.std.specs.Ordering.{nat_cmp};
 ghost use Rattle.un_subnet.specs.Outcome.{is_row_of};
 ghost use Rattle.un_subnet.specs.declared.row_index.Subject.TheVariants.{At};
 ghost use Rattle.un_subnet.specs.RowIndex.{IsIndex, dirty, numbers_at, numbers_with, changed_numbers, made_in};
@@ -34,6 +38,17 @@ fn push_at_points(
     Ok(())
 }
 
+/// Whether the row with this number is of the subnetwork.
+fn is_of(rows: &Paged<u64, Entry>, number: u64, tier: u8, subnet: &Name) -> bool
+    ensures { result
+        ≡ option_map_or (is_row_of tier subnet.now) (lookup (is_at (nat_cmp number)) rows.now) false }
+{
+    match rows.get(&number) {
+        Some(entry) => entry.is_of(tier, subnet),
+        None => false,
+    }
+}
+
 /// Adds the numbers of the rows of a subnetwork.
 fn push_rows_of(
     rows: &Paged<u64, Entry>,
@@ -53,11 +68,10 @@ fn push_rows_of(
         if !key.is_under(subject) {
             return Ok(());
         }
-        if let Some(entry) = rows.get(&key.number) {
-            if entry.is_of(tier, subnet) {
-                numbers.push(key.number)?;
-            }
+        if !is_of(rows, key.number, tier, subnet) {
+            continue;
         }
+        numbers.push(key.number)?;
     }
     Ok(())
 }

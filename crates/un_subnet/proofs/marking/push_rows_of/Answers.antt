@@ -1,4 +1,4 @@
-use Rattle.std.proofs.Common.{◌∷◌, [], ◌++◌, ◌∙◌, ap, sym, subst, Some, None, cond, append_assoc}
+use Rattle.std.proofs.Common.{◌∷◌, [], ◌++◌, ◌∙◌, ap, sym, subst, true, false, append_assoc}
 use Rattle.un_pages.specs.Pairs.{IsOrdered, from_on}
 use Rattle.un_subnet.specs.Outcome.{is_row_of}
 use Rattle.un_subnet.specs.RowIndex.{numbers_at}
@@ -21,28 +21,12 @@ loop-key-init c =
     ∙ ap (λ s. named_in p rows (numbers_at c.args.keys.now s)) c.of_subnet-subject.ensures
     ∙ named_all c.args.tier c.args.subnet.now rows c.args.keys.now c.requires c.len-rows.ensures.ordered ordered)
 
-pub loop-key-preserved-in-Continue-1 : goal.loop-key-preserved-in-Continue-1
-loop-key-preserved-in-Continue-1 c =
+pub loop-key-preserved-then-not-is_of : goal.loop-key-preserved-then-not-is_of
+loop-key-preserved-then-not-is_of c =
     let p = is_row_of c.args.tier c.args.subnet.now in
     let s = c.of_subnet-subject.result in
-    let more = named_in p c.args.rows.now (run_at s c.next.new.self) in
-    ap (λ l. l ++ more) c.in_ok-push.ensures.items
-    ∙ append_assoc c.loop-key.numbers.items (c.in-Some.key.number ∷ []) more
-    ∙ ap (λ l. c.loop-key.numbers.items ++ l)
-    (sym (ap (λ b. cond b (c.in-Some.key.number ∷ more) more) (sym c.is_of.ensures ∙ c.if-is_of.true))
-    ∙ sym (named_step c.args.tier c.args.subnet.now c.args.rows.now c.in-Some.key.number (run_at s c.next.new.self) (Some c.in-Some-get.entry.now) c.in-Some-get.ensures)
-    ∙ sym (ap (λ rest. named_in p c.args.rows.now (run_at s rest)) c.in-Some.ensures.steps
-    ∙ ap (named_in p c.args.rows.now) (run_more s (c.in-Some.key, tt) c.next.new.self (sym c.is_under.ensures ∙ c.if-not-is_under.false))))
-    ∙ c.loop-key.invariant
-
-pub loop-key-preserved-else-is_of : goal.loop-key-preserved-else-is_of
-loop-key-preserved-else-is_of c =
-    let p = is_row_of c.args.tier c.args.subnet.now in
-    let s = c.of_subnet-subject.result in
-    let more = named_in p c.args.rows.now (run_at s c.next.new.self) in
     ap (λ l. c.loop-key.numbers.items ++ l)
-    (sym (ap (λ b. cond b (c.in-Some.key.number ∷ more) more) (sym c.is_of.ensures ∙ c.if-is_of.false))
-    ∙ sym (named_step c.args.tier c.args.subnet.now c.args.rows.now c.in-Some.key.number (run_at s c.next.new.self) (Some c.in-Some-get.entry.now) c.in-Some-get.ensures)
+    (sym (named_step c.args.tier c.args.subnet.now c.args.rows.now c.in-Some.key.number (run_at s c.next.new.self) false (sym c.if-not-is_of.true ∙ c.is_of.ensures))
     ∙ sym (ap (λ rest. named_in p c.args.rows.now (run_at s rest)) c.in-Some.ensures.steps
     ∙ ap (named_in p c.args.rows.now) (run_more s (c.in-Some.key, tt) c.next.new.self (sym c.is_under.ensures ∙ c.if-not-is_under.false))))
     ∙ c.loop-key.invariant
@@ -51,8 +35,11 @@ pub loop-key-preserved : goal.loop-key-preserved
 loop-key-preserved c =
     let p = is_row_of c.args.tier c.args.subnet.now in
     let s = c.of_subnet-subject.result in
-    ap (λ l. c.loop-key.numbers.items ++ l)
-    (sym (named_step c.args.tier c.args.subnet.now c.args.rows.now c.in-Some.key.number (run_at s c.next.new.self) None c.in_default.ensures)
+    let more = named_in p c.args.rows.now (run_at s c.next.new.self) in
+    ap (λ l. l ++ more) c.in_ok-push.ensures.items
+    ∙ append_assoc c.loop-key.numbers.items (c.in-Some.key.number ∷ []) more
+    ∙ ap (λ l. c.loop-key.numbers.items ++ l)
+    (sym (named_step c.args.tier c.args.subnet.now c.args.rows.now c.in-Some.key.number (run_at s c.next.new.self) true (sym c.if-not-is_of.false ∙ c.is_of.ensures))
     ∙ sym (ap (λ rest. named_in p c.args.rows.now (run_at s rest)) c.in-Some.ensures.steps
     ∙ ap (named_in p c.args.rows.now) (run_more s (c.in-Some.key, tt) c.next.new.self (sym c.is_under.ensures ∙ c.if-not-is_under.false))))
     ∙ c.loop-key.invariant
