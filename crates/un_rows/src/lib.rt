@@ -1,0 +1,7 @@
+//! Tests of a network at a desk of sessions.
+#![tactic(auto)]
+
+#[cfg(test)]
+mod desk;
+#[cfg(test)]
+mod features;
