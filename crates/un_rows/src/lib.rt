@@ -5,3 +5,5 @@
 mod desk;
 #[cfg(test)]
 mod features;
+#[cfg(test)]
+mod views;
