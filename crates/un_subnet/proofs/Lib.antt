@@ -14,6 +14,7 @@ pub mod NoMemory
 pub mod Numbered
 pub mod Ordered
 pub mod Pairwise
+pub mod Points
 pub mod Runs
 pub mod SameStar
 pub mod Searching
