@@ -1,4 +1,4 @@
-"""Starts a server under schema 0 on a free port, and opens links to it: for the scripts that check it and measure it."""
+"""Starts a server on a free port, under schema 0 if no other is given, and opens links to it: for the scripts that check it and measure it."""
 import http.client
 import os
 import socket
@@ -16,8 +16,8 @@ GET_VERSION = b"GET /version HTTP/1.1\r\n\r\n"
 class Server:
     """A server that runs while the block does."""
 
-    def __init__(self, program, workers):
-        self.program, self.workers = program, workers
+    def __init__(self, program, workers, schema=b'{"schema":0}\n'):
+        self.program, self.workers, self.schema = program, workers, schema
 
     def __enter__(self):
         self.folder = tempfile.TemporaryDirectory()
@@ -37,7 +37,7 @@ class Server:
         started = False
         try:
             # Standard input stays open: the server reads the schema's line and nothing after it.
-            self.process.stdin.write(b'{"schema":0}\n')
+            self.process.stdin.write(self.schema)
             self.process.stdin.flush()
             started = self.answers()
         except BrokenPipeError:

@@ -1,14 +1,15 @@
-//! Two links at once.
+//! A server over TCP: two links at once, and a link before a door that fails.
 
-use crate::door::ShortDoor;
-use std::alloc::{AllocError, Global};
+use super::short_door::{Last, ShortDoor};
+use super::words_of;
+use std::alloc::Global;
 use std::io;
 use std::io::{Read, Write};
-use std::net::{Ipv4Addr, OpenStream, SocketAddr, TcpListener, TcpStream};
+use std::net::{Ipv4Addr, OpenStream, Shutdown, SocketAddr, TcpListener, TcpStream};
 use std::test::Fail;
 use std::thread::join;
 use std::time::Duration;
-use un_io::{SureSource, TcpDoor, Word};
+use un_io::{SureSource, TcpDoor};
 use un_serve::run_serve;
 
 /// The first bytes of the first link's insert. While the rest is missing, the second link is served.
@@ -71,23 +72,15 @@ fn connect(rt: &HostRuntime, address: SocketAddr) -> io::Result<TcpStream> {
     Ok(link)
 }
 
-// The server's words, for two workers. The port is of no use: the door is there.
-fn words(alloc: Global) -> Result<Vec<Word>, AllocError> {
-    let mut words = Vec::new(alloc);
-    for text in ["serve", "1", "2"] {
-        words.push(Word::new(String::from_str(alloc, text)?))?;
-    }
-    Ok(words)
-}
-
 #[test]
 fn two_links_are_served_at_once(rt: HostRuntime) -> Result<(), Fail> {
     let alloc = rt.alloc();
-    let words = words(alloc)?;
+    // The port is of no use: the door is there.
+    let words = words_of(alloc, &["serve", "1", "2"])?;
     let mut schema = SureSource::new(b"{\"schema\":0}\n".to_vec(alloc)?);
     let listener = TcpListener::bind(&rt, SocketAddr::from((Ipv4Addr::LOCALHOST, 0)))?;
     let address = listener.local_addr()?;
-    let mut door = ShortDoor::new(TcpDoor::new(listener), 2);
+    let mut door = ShortDoor::new(TcpDoor::new(listener), 2, Last::Closed);
     let first = connect(&rt, address)?;
     let second = connect(&rt, address)?;
     let (status, talked) = join(
@@ -97,5 +90,21 @@ fn two_links_are_served_at_once(rt: HostRuntime) -> Result<(), Fail> {
     );
     assert!(rt; talked);
     assert_eq!(rt; status, 0);
+    Ok(())
+}
+
+#[test]
+fn a_link_is_served_before_the_door_fails(rt: HostRuntime) -> Result<(), Fail> {
+    let alloc = rt.alloc();
+    let words = words_of(alloc, &["serve", "1", "1"])?;
+    let mut schema = SureSource::new(b"{\"schema\":0}\n".to_vec(alloc)?);
+    let listener = TcpListener::bind(&rt, SocketAddr::from((Ipv4Addr::LOCALHOST, 0)))?;
+    let mut client = connect(&rt, listener.local_addr()?)?;
+    let mut door = ShortDoor::new(TcpDoor::new(listener), 1, Last::Failed);
+    client.write_all(VERSION)?;
+    client.shutdown(Shutdown::Write)?;
+    let status = run_serve(&rt, alloc, &words, &mut schema, &mut door);
+    let text = io::read_to_string(alloc, client)?;
+    assert!(rt; status == 5 && text.as_bytes() == VERSION_0);
     Ok(())
 }

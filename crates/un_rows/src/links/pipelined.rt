@@ -1,0 +1,112 @@
+//! Two requests and a part of a third one, where the input ends at every byte, and where each read and each write fails.
+
+use super::{Calls, WHOLE, gives};
+use std::alloc::{AllocError, Global};
+use std::sync::Wait;
+use std::test::Fail;
+use un_serve::LinkEnd;
+
+// Two requests of 34 bytes, and a third one whose body is cut after 5 of its 9 bytes.
+const THREE: &[u8] =
+    b"GET /version HTTP/1.1\r\nHost: a\r\n\r\nGET /version HTTP/1.1\r\nHost: a\r\n\r\nPOST /commands HTTP/1.1\r\nContent-Length: 9\r\n\r\n{\"do\"";
+
+// The length of each of the first two requests, and of the response to it.
+const REQUEST: usize = 34;
+
+const RESPONSE: usize = 99;
+
+// The responses to the first two.
+const TWO: &[u8] =
+    b"HTTP/1.1 200 OK\r\nContent-Type: application/json\r\nContent-Length: 28\r\n\r\n{\"ok\":\"version\",\"version\":0}HTTP/1.1 200 OK\r\nContent-Type: application/json\r\nContent-Length: 28\r\n\r\n{\"ok\":\"version\",\"version\":0}";
+
+// The responses to the requests that are whole in so many bytes.
+fn responses_by(count: usize) -> &'static [u8] {
+    &TWO[..RESPONSE * (count / REQUEST).min(2)]
+}
+
+// How the link ends where the input ends after so many bytes.
+fn end_after(count: usize) -> LinkEnd {
+    let rest = count - REQUEST * (count / REQUEST).min(2);
+    if rest == 0 {
+        LinkEnd::Closed
+    } else {
+        LinkEnd::Cut { bytes: rest as u64 }
+    }
+}
+
+// The least count of bytes after which the input ends and the link is answered otherwise.
+fn first_other_end<R: Wait>(rt: &R, alloc: Global) -> Result<Option<usize>, AllocError> {
+    for count in 0..=THREE.len() {
+        let (output, end) = (responses_by(count), end_after(count));
+        if !gives(rt, alloc, &THREE[..count], (WHOLE, WHOLE), output, end)? {
+            return Ok(Some(count));
+        }
+    }
+    Ok(None)
+}
+
+#[test]
+fn whole_requests_are_answered_before_the_input_ends(rt: HostRuntime) -> Result<(), Fail> {
+    assert_eq!(rt; first_other_end(&rt, rt.alloc())?, None);
+    Ok(())
+}
+
+// The least number of a read that fails and is answered otherwise than by the responses to the requests that were whole before it.
+// Each read gives so many bytes; the last one would have found the end of the input.
+fn first_other_read<R: Wait>(
+    rt: &R,
+    alloc: Global,
+    size: usize,
+) -> Result<Option<usize>, AllocError> {
+    let size = size.max(1);
+    let cuts = vec![in alloc; size; THREE.len()]?;
+    for failing in 0..=THREE.len().div_ceil(size) {
+        let reads = Calls {
+            cuts: cuts.as_slice(),
+            failing,
+        };
+        let output = responses_by(failing.saturating_mul(size));
+        if !gives(rt, alloc, THREE, (reads, WHOLE), output, LinkEnd::ReadFault)? {
+            return Ok(Some(failing));
+        }
+    }
+    Ok(None)
+}
+
+#[test]
+fn whole_requests_are_answered_before_a_read_fails(rt: HostRuntime) -> Result<(), Fail> {
+    for size in [1, 7, 40] {
+        assert_eq!(rt; first_other_read(&rt, rt.alloc(), size)?, None);
+    }
+    Ok(())
+}
+
+// The least number of a write that fails and is answered otherwise than by the bytes that were written before it. Each write takes
+// a byte.
+fn first_other_write<R: Wait>(rt: &R, alloc: Global) -> Result<Option<usize>, AllocError> {
+    let cuts = vec![in alloc; 1; TWO.len()]?;
+    for failing in 0..TWO.len() {
+        let writes = Calls {
+            cuts: cuts.as_slice(),
+            failing,
+        };
+        let output = &TWO[..failing];
+        if !gives(
+            rt,
+            alloc,
+            THREE,
+            (WHOLE, writes),
+            output,
+            LinkEnd::WriteFault,
+        )? {
+            return Ok(Some(failing));
+        }
+    }
+    Ok(None)
+}
+
+#[test]
+fn a_write_that_fails_leaves_what_was_written(rt: HostRuntime) -> Result<(), Fail> {
+    assert_eq!(rt; first_other_write(&rt, rt.alloc())?, None);
+    Ok(())
+}

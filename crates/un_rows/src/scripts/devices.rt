@@ -1,0 +1,308 @@
+//! The requests and replies of scripts over a few devices, junctions and mains.
+use super::Exchange;
+
+pub(super) const END_VERTEX_POLICY: &[Exchange] = &[
+    (
+        r#"{"do":"insert","kind":"joint","points":[[5,0,0]]}"#,
+        r#"{"areas":[1,1],"id":1,"ok":"insert","version":1}"#,
+    ),
+    (
+        r#"{"do":"insert","kind":"main","points":[[0,0,0],[5,0,0],[10,0,0]]}"#,
+        r#"{"areas":[2,1],"id":2,"ok":"insert","version":2}"#,
+    ),
+    (
+        r#"{"do":"insert","kind":"feeder","points":[[5,5,0],[5,0,0],[5,-5,0]]}"#,
+        r#"{"areas":[3,1],"id":3,"ok":"insert","version":3}"#,
+    ),
+    (
+        r#"{"do":"validate","extent":[-10,-10,10,10]}"#,
+        r#"{"cleared":3,"errors":0,"ok":"validate","version":4}"#,
+    ),
+    (
+        r#"{"ask":"trace","type":"connected","starts":[[1,1]]}"#,
+        r#"{"containers":[],"content":[],"features":[[1,[1]],[3,[0,1,2]]],"functions":[],"ok":"connected","structures":[],"version":4}"#,
+    ),
+];
+
+pub(super) const STRETCHED_PARTNER: &[Exchange] = &[
+    (
+        r#"{"do":"insert","kind":"joint","points":[[0,0,0]]}"#,
+        r#"{"areas":[1,1],"id":1,"ok":"insert","version":1}"#,
+    ),
+    (
+        r#"{"do":"insert","kind":"joint","points":[[100,0,0]]}"#,
+        r#"{"areas":[2,1],"id":2,"ok":"insert","version":2}"#,
+    ),
+    (
+        r#"{"do":"connect","from":[1,1],"to":[2,1]}"#,
+        r#"{"areas":[3,2],"id":1,"ok":"connect","version":3}"#,
+    ),
+    (
+        r#"{"do":"validate","extent":[0,0,100,0]}"#,
+        r#"{"cleared":4,"errors":0,"ok":"validate","version":4}"#,
+    ),
+    (
+        r#"{"do":"reshape","id":2,"base":2,"points":[[500,0,0]]}"#,
+        r#"{"areas":[5,3],"id":2,"ok":"reshape","version":5}"#,
+    ),
+    (
+        r#"{"ask":"trace","type":"connected","starts":[[1,1]]}"#,
+        r#"{"area":7,"error":43,"feature":1,"name":"DirtyGround","port":1,"version":5}"#,
+    ),
+    (
+        r#"{"ask":"trace","type":"connected","starts":[[1,1]],"consistent":false}"#,
+        r#"{"containers":[],"content":[],"features":[[1,[1]],[2,[1]]],"functions":[],"ok":"connected","structures":[],"version":5}"#,
+    ),
+];
+
+pub(super) const TEE_PATHS: &[Exchange] = &[
+    (
+        r#"{"do":"insert","kind":"tee","points":[[0,0,0]]}"#,
+        r#"{"areas":[1,1],"id":1,"ok":"insert","version":1}"#,
+    ),
+    (
+        r#"{"do":"insert","kind":"main","points":[[0,0,0],[10,0,0]],"ends":[1,0]}"#,
+        r#"{"areas":[2,1],"id":2,"ok":"insert","version":2}"#,
+    ),
+    (
+        r#"{"do":"insert","kind":"main","points":[[0,0,0],[0,10,0]],"ends":[2,0]}"#,
+        r#"{"areas":[3,1],"id":3,"ok":"insert","version":3}"#,
+    ),
+    (
+        r#"{"do":"insert","kind":"main","points":[[0,0,0],[-10,0,0]],"ends":[3,0]}"#,
+        r#"{"areas":[4,1],"id":4,"ok":"insert","version":4}"#,
+    ),
+    (
+        r#"{"do":"validate","extent":[-10,0,10,10]}"#,
+        r#"{"cleared":4,"errors":0,"ok":"validate","version":5}"#,
+    ),
+    (
+        r#"{"ask":"trace","type":"connected","starts":[[2,1]]}"#,
+        r#"{"containers":[],"content":[],"features":[[1,[1,2,3]],[2,[0,1]],[3,[0,1]],[4,[0,1]]],"functions":[],"ok":"connected","structures":[],"version":5}"#,
+    ),
+    (
+        r#"{"ask":"trace","type":"loops","starts":[[2,1]]}"#,
+        r#"{"ok":"loops","segments":[],"version":5}"#,
+    ),
+    (
+        r#"{"do":"path","id":1,"base":1,"path":"1-2"}"#,
+        r#"{"areas":[5,1],"id":1,"ok":"path","version":6}"#,
+    ),
+    (
+        r#"{"do":"validate","extent":[0,0,0,0]}"#,
+        r#"{"cleared":1,"errors":0,"ok":"validate","version":7}"#,
+    ),
+    (
+        r#"{"ask":"trace","type":"connected","starts":[[2,1]]}"#,
+        r#"{"containers":[],"content":[],"features":[[1,[1,2]],[2,[0,1]],[3,[0,1]]],"functions":[],"ok":"connected","structures":[],"version":7}"#,
+    ),
+    (
+        r#"{"do":"path","id":1,"base":6,"path":"none"}"#,
+        r#"{"areas":[6,1],"id":1,"ok":"path","version":8}"#,
+    ),
+    (
+        r#"{"do":"validate","extent":[0,0,0,0]}"#,
+        r#"{"cleared":1,"errors":0,"ok":"validate","version":9}"#,
+    ),
+    (
+        r#"{"ask":"trace","type":"connected","starts":[[2,1]]}"#,
+        r#"{"containers":[],"content":[],"features":[[1,[1]],[2,[0,1]]],"functions":[],"ok":"connected","structures":[],"version":9}"#,
+    ),
+    (
+        r#"{"do":"path","id":1,"base":8,"path":"half"}"#,
+        r#"{"error":16,"name":"BadPath","version":9}"#,
+    ),
+];
+
+// Two mains at a pump, of which one leads against its own flow.
+pub(super) const PUMP: &[Exchange] = &[
+    (
+        r#"{"do":"insert","kind":"pump","points":[[0,0,0]]}"#,
+        r#"{"areas":[1,1],"id":1,"ok":"insert","version":1}"#,
+    ),
+    (
+        r#"{"do":"insert","kind":"main","points":[[0,0,0],[10,0,0]],"ends":[2,0],"flow":"with","attrs":{"length":10}}"#,
+        r#"{"areas":[2,1],"id":2,"ok":"insert","version":2}"#,
+    ),
+    (
+        r#"{"do":"insert","kind":"main","points":[[0,0,0],[-10,0,0]],"ends":[1,0],"flow":"against","attrs":{"length":7}}"#,
+        r#"{"areas":[3,1],"id":3,"ok":"insert","version":3}"#,
+    ),
+    (
+        r#"{"do":"validate","extent":[-10,0,10,0]}"#,
+        r#"{"cleared":3,"errors":0,"ok":"validate","version":4}"#,
+    ),
+];
+
+pub(super) const FLOW_DIRECTIONS: &[Exchange] = &[
+    (
+        r#"{"ask":"trace","type":"downstream","starts":[[3,1]],"tier":"zone","functions":[["count"],["sum","length"],["least","diameter"]]}"#,
+        r#"{"containers":[],"content":[],"features":[[1,[1,2]],[2,[0,1]],[3,[0,1]]],"functions":[3,17,null],"ok":"downstream","structures":[],"version":4}"#,
+    ),
+    (
+        r#"{"ask":"trace","type":"upstream","starts":[[2,0]],"tier":"zone"}"#,
+        r#"{"containers":[],"content":[],"features":[[1,[1,2]],[2,[0]],[3,[0,1]]],"functions":[],"ok":"upstream","structures":[],"version":4}"#,
+    ),
+];
+
+pub(super) const CONTAINMENT: &[Exchange] = &[
+    (
+        r#"{"do":"insert","kind":"vault","points":[[0,0,0]]}"#,
+        r#"{"areas":[1,1],"id":1,"ok":"insert","version":1}"#,
+    ),
+    (
+        r#"{"do":"insert","kind":"valve","points":[[0,0,0]]}"#,
+        r#"{"areas":[2,1],"id":2,"ok":"insert","version":2}"#,
+    ),
+    (
+        r#"{"do":"contain","container":1,"content":2}"#,
+        r#"{"areas":[3,2],"id":1,"ok":"contain","version":3}"#,
+    ),
+    (
+        r#"{"do":"contain","container":1,"content":2}"#,
+        r#"{"by":1,"error":21,"name":"AlreadyContained","version":3}"#,
+    ),
+    (
+        r#"{"do":"contain","container":1,"content":1}"#,
+        r#"{"error":22,"name":"ContainsItself","version":3}"#,
+    ),
+    (
+        r#"{"do":"delete","id":2,"base":2}"#,
+        r#"{"error":17,"least":1,"name":"HasAssociations","version":3}"#,
+    ),
+    (
+        r#"{"do":"validate","extent":[0,0,0,0]}"#,
+        r#"{"cleared":4,"errors":0,"ok":"validate","version":4}"#,
+    ),
+    (
+        r#"{"ask":"trace","type":"connected","starts":[[2,1]],"include":["containers"]}"#,
+        r#"{"containers":[1],"content":[],"features":[[2,[1,2]]],"functions":[],"ok":"connected","structures":[],"version":4}"#,
+    ),
+];
+
+pub(super) const TERMINAL_ERRORS: &[Exchange] = &[
+    (
+        r#"{"do":"insert","kind":"tee","points":[[0,0,0]]}"#,
+        r#"{"areas":[1,1],"id":1,"ok":"insert","version":1}"#,
+    ),
+    (
+        r#"{"do":"insert","kind":"main","points":[[0,0,0],[10,0,0]]}"#,
+        r#"{"areas":[2,1],"id":2,"ok":"insert","version":2}"#,
+    ),
+    (
+        r#"{"do":"insert","kind":"feeder","points":[[0,5,0],[0,0,0],[0,-5,0]]}"#,
+        r#"{"areas":[3,1],"id":3,"ok":"insert","version":3}"#,
+    ),
+    (
+        r#"{"do":"validate","extent":[0,0,0,0]}"#,
+        r#"{"cleared":3,"errors":2,"ok":"validate","version":4}"#,
+    ),
+    (
+        r#"{"ask":"errors","extent":[0,0,0,0]}"#,
+        r#"{"errors":[[0,0,0,"BadTerminal",2,0,0],[0,0,0,"MidspanTerminal",3,1,0]],"ok":"errors","version":4}"#,
+    ),
+];
+
+pub(super) const UNPERMITTED_PAIR: &[Exchange] = &[
+    (
+        r#"{"do":"insert","kind":"valve","points":[[0,0,0]]}"#,
+        r#"{"areas":[1,1],"id":1,"ok":"insert","version":1}"#,
+    ),
+    (
+        r#"{"do":"insert","kind":"joint","points":[[5,0,0]]}"#,
+        r#"{"areas":[2,1],"id":2,"ok":"insert","version":2}"#,
+    ),
+    (
+        r#"{"do":"connect","from":[1,1],"to":[2,1]}"#,
+        r#"{"areas":[3,2],"id":1,"ok":"connect","version":3}"#,
+    ),
+    (
+        r#"{"do":"validate","extent":[0,0,5,0]}"#,
+        r#"{"cleared":4,"errors":2,"ok":"validate","version":4}"#,
+    ),
+    (
+        r#"{"ask":"errors","extent":[0,0,5,0]}"#,
+        r#"{"errors":[[0,0,0,"AssociationRule",1,1,1],[5,0,0,"AssociationRule",2,1,1]],"ok":"errors","version":4}"#,
+    ),
+];
+
+pub(super) const STOPS: &[Exchange] = &[
+    (
+        r#"{"ask":"trace","type":"connected","starts":[[2,1]],"stops":[[1,2]]}"#,
+        r#"{"containers":[],"content":[],"features":[[2,[0,1]]],"functions":[],"ok":"connected","structures":[],"version":4}"#,
+    ),
+    (
+        r#"{"ask":"trace","type":"connected","starts":[[2,1]],"stops":[[1,2]],"include":["barriers"]}"#,
+        r#"{"containers":[],"content":[],"features":[[1,[2]],[2,[0,1]]],"functions":[],"ok":"connected","structures":[],"version":4}"#,
+    ),
+];
+
+pub(super) const TWO_KINDS_THROUGH_A_JOINT: &[Exchange] = &[
+    (
+        r#"{"do":"insert","kind":"joint","points":[[0,0,0]]}"#,
+        r#"{"areas":[1,1],"id":1,"ok":"insert","version":1}"#,
+    ),
+    (
+        r#"{"do":"insert","kind":"main","points":[[0,0,0],[10,0,0]]}"#,
+        r#"{"areas":[2,1],"id":2,"ok":"insert","version":2}"#,
+    ),
+    (
+        r#"{"do":"validate","extent":[0,0,0,0]}"#,
+        r#"{"cleared":2,"errors":1,"ok":"validate","version":3}"#,
+    ),
+    (
+        r#"{"do":"insert","kind":"feeder","points":[[0,0,0],[0,10,0]]}"#,
+        r#"{"areas":[3,1],"id":3,"ok":"insert","version":4}"#,
+    ),
+    (
+        r#"{"do":"validate","extent":[0,0,0,0]}"#,
+        r#"{"cleared":1,"errors":0,"ok":"validate","version":5}"#,
+    ),
+    (
+        r#"{"ask":"trace","type":"connected","starts":[[1,1]]}"#,
+        r#"{"containers":[],"content":[],"features":[[1,[1]],[2,[0,1]],[3,[0,1]]],"functions":[],"ok":"connected","structures":[],"version":5}"#,
+    ),
+];
+
+pub(super) const RULE_WHILE_RUNNING: &[Exchange] = &[
+    (
+        r#"{"do":"insert","kind":"valve","points":[[0,0,0]]}"#,
+        r#"{"areas":[1,1],"id":1,"ok":"insert","version":1}"#,
+    ),
+    (
+        r#"{"do":"insert","kind":"feeder","points":[[0,0,0],[10,0,0]],"ends":[1,0]}"#,
+        r#"{"areas":[2,1],"id":2,"ok":"insert","version":2}"#,
+    ),
+    (
+        r#"{"do":"validate","extent":[0,0,10,0]}"#,
+        r#"{"cleared":2,"errors":1,"ok":"validate","version":3}"#,
+    ),
+    (
+        r#"{"do":"rule","rule":["je","valve",0,"feeder"]}"#,
+        r#"{"areas":[3,1],"ok":"rule","rules":9,"version":4}"#,
+    ),
+    (
+        r#"{"ask":"trace","type":"connected","starts":[[2,1]]}"#,
+        r#"{"area":3,"error":43,"feature":2,"name":"DirtyGround","port":0,"version":4}"#,
+    ),
+    (
+        r#"{"do":"validate","extent":[0,0,0,0]}"#,
+        r#"{"cleared":1,"errors":0,"ok":"validate","version":5}"#,
+    ),
+    (
+        r#"{"ask":"trace","type":"connected","starts":[[2,1]]}"#,
+        r#"{"containers":[],"content":[],"features":[[1,[1,2]],[2,[0,1]]],"functions":[],"ok":"connected","structures":[],"version":5}"#,
+    ),
+    (
+        r#"{"do":"rule","rule":["je","valve",0,"feeder"]}"#,
+        r#"{"error":46,"name":"RuleExists","place":8,"version":5}"#,
+    ),
+    (
+        r#"{"do":"rule","rule":["je","valve",3,"feeder"]}"#,
+        r#"{"error":45,"name":"BadRuleTerminal","place":2,"version":5}"#,
+    ),
+    (
+        r#"{"do":"rule","rule":["je","main",0,"feeder"]}"#,
+        r#"{"error":20,"name":"WrongKind","version":5}"#,
+    ),
+];

@@ -1,0 +1,207 @@
+//! The requests and replies of scripts over a pressure zone of twelve mains behind a pump.
+use super::Exchange;
+
+// A pump, joints, valves and twelve mains. The terminals of mains at valves and at the pump are their ends.
+pub(super) const ZONE: &[Exchange] = &[
+    (
+        r#"{"do":"insert","kind":"pump","points":[[0,0,0]]}"#,
+        r#"{"areas":[1,1],"id":1,"ok":"insert","version":1}"#,
+    ),
+    (
+        r#"{"do":"insert","kind":"joint","points":[[1000,0,0]]}"#,
+        r#"{"areas":[2,1],"id":2,"ok":"insert","version":2}"#,
+    ),
+    (
+        r#"{"do":"insert","kind":"joint","points":[[3000,0,0]]}"#,
+        r#"{"areas":[3,1],"id":3,"ok":"insert","version":3}"#,
+    ),
+    (
+        r#"{"do":"insert","kind":"joint","points":[[1000,1000,0]]}"#,
+        r#"{"areas":[4,1],"id":4,"ok":"insert","version":4}"#,
+    ),
+    (
+        r#"{"do":"insert","kind":"joint","points":[[3000,1000,0]]}"#,
+        r#"{"areas":[5,1],"id":5,"ok":"insert","version":5}"#,
+    ),
+    (
+        r#"{"do":"insert","kind":"joint","points":[[5000,0,0]]}"#,
+        r#"{"areas":[6,1],"id":6,"ok":"insert","version":6}"#,
+    ),
+    (
+        r#"{"do":"insert","kind":"joint","points":[[6000,0,0]]}"#,
+        r#"{"areas":[7,1],"id":7,"ok":"insert","version":7}"#,
+    ),
+    (
+        r#"{"do":"insert","kind":"joint","points":[[1000,3000,0]]}"#,
+        r#"{"areas":[8,1],"id":8,"ok":"insert","version":8}"#,
+    ),
+    (
+        r#"{"do":"insert","kind":"valve","points":[[2000,0,0]]}"#,
+        r#"{"areas":[9,1],"id":9,"ok":"insert","version":9}"#,
+    ),
+    (
+        r#"{"do":"insert","kind":"valve","points":[[2000,1000,0]]}"#,
+        r#"{"areas":[10,1],"id":10,"ok":"insert","version":10}"#,
+    ),
+    (
+        r#"{"do":"insert","kind":"valve","points":[[4000,0,0]]}"#,
+        r#"{"areas":[11,1],"id":11,"ok":"insert","version":11}"#,
+    ),
+    (
+        r#"{"do":"insert","kind":"valve","points":[[1000,2000,0]]}"#,
+        r#"{"areas":[12,1],"id":12,"ok":"insert","version":12}"#,
+    ),
+    (
+        r#"{"do":"insert","kind":"main","points":[[0,0,0],[1000,0,0]],"ends":[2,0]}"#,
+        r#"{"areas":[13,1],"id":13,"ok":"insert","version":13}"#,
+    ),
+    (
+        r#"{"do":"insert","kind":"main","points":[[1000,0,0],[2000,0,0]],"ends":[0,1]}"#,
+        r#"{"areas":[14,1],"id":14,"ok":"insert","version":14}"#,
+    ),
+    (
+        r#"{"do":"insert","kind":"main","points":[[2000,0,0],[3000,0,0]],"ends":[2,0]}"#,
+        r#"{"areas":[15,1],"id":15,"ok":"insert","version":15}"#,
+    ),
+    (
+        r#"{"do":"insert","kind":"main","points":[[1000,0,0],[1000,1000,0]],"ends":[0,0]}"#,
+        r#"{"areas":[16,1],"id":16,"ok":"insert","version":16}"#,
+    ),
+    (
+        r#"{"do":"insert","kind":"main","points":[[1000,1000,0],[2000,1000,0]],"ends":[0,1]}"#,
+        r#"{"areas":[17,1],"id":17,"ok":"insert","version":17}"#,
+    ),
+    (
+        r#"{"do":"insert","kind":"main","points":[[2000,1000,0],[3000,1000,0]],"ends":[2,0]}"#,
+        r#"{"areas":[18,1],"id":18,"ok":"insert","version":18}"#,
+    ),
+    (
+        r#"{"do":"insert","kind":"main","points":[[3000,1000,0],[3000,0,0]],"ends":[0,0]}"#,
+        r#"{"areas":[19,1],"id":19,"ok":"insert","version":19}"#,
+    ),
+    (
+        r#"{"do":"insert","kind":"main","points":[[3000,0,0],[4000,0,0]],"ends":[0,1]}"#,
+        r#"{"areas":[20,1],"id":20,"ok":"insert","version":20}"#,
+    ),
+    (
+        r#"{"do":"insert","kind":"main","points":[[4000,0,0],[5000,0,0]],"ends":[2,0]}"#,
+        r#"{"areas":[21,1],"id":21,"ok":"insert","version":21}"#,
+    ),
+    (
+        r#"{"do":"insert","kind":"main","points":[[5000,0,0],[6000,0,0]],"ends":[0,0]}"#,
+        r#"{"areas":[22,1],"id":22,"ok":"insert","version":22}"#,
+    ),
+    (
+        r#"{"do":"insert","kind":"main","points":[[1000,1000,0],[1000,2000,0]],"ends":[0,1]}"#,
+        r#"{"areas":[23,1],"id":23,"ok":"insert","version":23}"#,
+    ),
+    (
+        r#"{"do":"insert","kind":"main","points":[[1000,2000,0],[1000,3000,0]],"ends":[2,0]}"#,
+        r#"{"areas":[24,1],"id":24,"ok":"insert","version":24}"#,
+    ),
+];
+
+pub(super) const ISOLATION: &[Exchange] = &[
+    (
+        r#"{"do":"controller","id":1,"terminal":2,"tier":"zone","subnet":"A"}"#,
+        r#"{"areas":[25,1],"id":1,"ok":"controller","version":25}"#,
+    ),
+    (
+        r#"{"do":"validate","extent":[0,0,6000,3000]}"#,
+        r#"{"cleared":25,"errors":0,"ok":"validate","version":26}"#,
+    ),
+    (
+        r#"{"ask":"trace","type":"isolation","starts":[[3,1]],"tier":"zone","isolators":["has","isolating"]}"#,
+        r#"{"borders":[[9,2],[10,2]],"features":[[3,[1]],[5,[1]],[6,[1]],[7,[1]],[9,[2]],[10,[2]],[11,[1,2]],[15,[0,1]],[18,[0,1]],[19,[0,1]],[20,[0,1]],[21,[0,1]],[22,[0,1]]],"ok":"isolation","version":26}"#,
+    ),
+    (
+        r#"{"ask":"trace","type":"loops","starts":[[3,1]]}"#,
+        r#"{"ok":"loops","segments":[[14,0],[15,0],[16,0],[17,0],[18,0],[19,0]],"version":26}"#,
+    ),
+];
+
+pub(super) const NOT_ISOLABLE: &[Exchange] = &[
+    (
+        r#"{"ask":"trace","type":"isolation","starts":[[13,1]],"tier":"zone","isolators":["has","isolating"]}"#,
+        r#"{"error":44,"feature":1,"name":"NotIsolable","terminal":2,"version":26}"#,
+    ),
+    (
+        r#"{"ask":"trace","type":"isolation","starts":[[9,1]],"tier":"zone","isolators":["has","isolating"]}"#,
+        r#"{"error":41,"feature":9,"name":"StartIsValve","terminal":1,"version":26}"#,
+    ),
+];
+
+pub(super) const CONTROLLERS: &[Exchange] = &[(
+    r#"{"ask":"trace","type":"controllers","starts":[[3,1]],"tier":"zone"}"#,
+    r#"{"controllers":[[1,2,"A"]],"ok":"controllers","version":26}"#,
+)];
+
+pub(super) const ZONE_UPDATE: &[Exchange] = &[
+    (
+        r#"{"do":"update","tier":"zone","subnet":"A"}"#,
+        r#"{"members":24,"ok":"update","status":"clean","version":27}"#,
+    ),
+    (
+        r#"{"do":"insert","kind":"pump","points":[[1000,4000,0]]}"#,
+        r#"{"areas":[26,1],"id":25,"ok":"insert","version":28}"#,
+    ),
+    (
+        r#"{"do":"insert","kind":"main","points":[[1000,3000,0],[1000,4000,0]],"ends":[0,2]}"#,
+        r#"{"areas":[27,1],"id":26,"ok":"insert","version":29}"#,
+    ),
+    (
+        r#"{"do":"controller","id":25,"terminal":2,"tier":"zone","subnet":"B"}"#,
+        r#"{"areas":[28,1],"id":25,"ok":"controller","version":30}"#,
+    ),
+    (
+        r#"{"do":"validate","extent":[0,0,6000,4000]}"#,
+        r#"{"cleared":3,"errors":0,"ok":"validate","version":31}"#,
+    ),
+    (
+        r#"{"do":"update","tier":"zone","subnet":"A"}"#,
+        r#"{"error":28,"feature":25,"name":"Conflict","port":2,"subnet":"B","version":31}"#,
+    ),
+    (
+        r#"{"do":"path","id":12,"base":12,"path":"closed"}"#,
+        r#"{"areas":[29,1],"id":12,"ok":"path","version":32}"#,
+    ),
+    (
+        r#"{"do":"update","tier":"zone","subnet":"A"}"#,
+        r#"{"area":29,"error":43,"feature":23,"name":"DirtyGround","port":1,"version":32}"#,
+    ),
+    (
+        r#"{"do":"validate","extent":[1000,2000,1000,2000]}"#,
+        r#"{"cleared":1,"errors":0,"ok":"validate","version":33}"#,
+    ),
+    (
+        r#"{"do":"update","tier":"zone","subnet":"A"}"#,
+        r#"{"members":22,"ok":"update","status":"clean","version":34}"#,
+    ),
+    (
+        r#"{"do":"attrs","id":15,"base":15,"attrs":{"diameter":300}}"#,
+        r#"{"areas":[30,1],"id":15,"ok":"attrs","version":35}"#,
+    ),
+    (
+        r#"{"do":"validate","extent":[2500,0,2500,0]}"#,
+        r#"{"cleared":1,"errors":0,"ok":"validate","version":36}"#,
+    ),
+    (
+        r#"{"ask":"subnet","tier":"zone","subnet":"A"}"#,
+        r#"{"controllers":[[1,2]],"members":[1,2,3,4,5,6,7,9,10,11,12,13,14,15,16,17,18,19,20,21,22,23],"ok":"subnet","status":"dirty","subnet":"A","tier":"zone","updated":34,"version":36}"#,
+    ),
+];
+
+pub(super) const CONTROLLER_REMOVED: &[Exchange] = &[
+    (
+        r#"{"do":"uncontroller","id":1,"terminal":2}"#,
+        r#"{"areas":[31,1],"id":1,"ok":"uncontroller","version":37}"#,
+    ),
+    (
+        r#"{"do":"update","tier":"zone","subnet":"A"}"#,
+        r#"{"members":0,"ok":"update","status":"removed","version":38}"#,
+    ),
+    (
+        r#"{"do":"update","tier":"zone","subnet":"A"}"#,
+        r#"{"error":27,"name":"NoSuchSubnetwork","version":38}"#,
+    ),
+];

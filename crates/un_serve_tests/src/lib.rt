@@ -1,7 +1,0 @@
-//! Tests of the server over TCP.
-#![tactic(auto)]
-
-#[cfg(test)]
-mod door;
-#[cfg(test)]
-mod links;
