@@ -8,6 +8,8 @@ mod features;
 #[cfg(test)]
 mod links;
 #[cfg(test)]
+mod prepared;
+#[cfg(test)]
 mod scripts;
 #[cfg(test)]
 mod views;
