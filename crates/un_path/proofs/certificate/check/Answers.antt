@@ -1,0 +1,77 @@
+use Rattle.std.proofs.Common.{◌≡◌, ℕ, ◌≤◌, ◌+◌, Bool, true, false, List, [], ◌∷◌, length, Option, Some, None, inl, sym, ap, subst, ◌∙◌, refl}
+use Rattle.std.specs.Bool.{MatchBool}
+use Rattle.un_defs.specs.declared.port.Node.{Node}
+use Rattle.un_defs.specs.declared.walk.Dirt.{Dirt}
+use Rattle.un_defs.specs.Ground.{Ground}
+use Rattle.un_defs.specs.Reach.{dirt}
+use Rattle.un_walk.specs.declared.seen.Seen.{Seen}
+use Rattle.un_walk.specs.Seen.{nodes_of, HaveEntries}
+use Rattle.un_path.specs.declared.ask.CheckAsk.{CheckAsk}
+use Rattle.un_path.specs.declared.answer.CheckAnswer.{CheckAnswer}
+use Rattle.un_path.specs.declared.answer.CheckAnswer.TheVariants.{DirtyGround}
+use Rattle.un_path.specs.Answer.{IsReachFrom, IsValidOver, IsVerdict, IsVerdictGivenDirt, verdict}
+use Rattle.un_path.specs.Hops.{AreReached}
+use Rattle.un_path.proofs.Reaching.{reached_from, are_reached, few_looked_up}
+use Rattle.un_path.proofs.certificate.check.Goals as goal
+
+judged : (G : Ground) (ask : CheckAsk) (nodes : List Node) (b : Bool) → MatchBool b (IsValidOver G ask nodes) (IsValidOver G ask nodes → ⊥) → IsVerdict G ask nodes (verdict b)
+judged G ask nodes true h = h
+judged G ask nodes false h = h
+
+pub returns-in-Some-clause-ticks : goal.returns-in-Some-clause-ticks
+returns-in-Some-clause-ticks g c = λ reached reach.
+    let G = g.G.Ground.stars_and_areas c.args.over.now in
+    let ask : CheckAsk = c.args.ask.now in
+    few_looked_up G ask.barriers ask.from c.in_ok-reached.reached.seen.items reached c.args.steps.now c.reach_seen.new.steps c.in_ok-reached.ensures.nodes reach (c.in_ok-reached.ensures.ticks (inl c.requires.untiered))
+
+pub returns-clause-ticks : goal.returns-clause-ticks
+returns-clause-ticks g c = λ reached reach.
+    let G = g.G.Ground.stars_and_areas c.args.over.now in
+    let ask : CheckAsk = c.args.ask.now in
+    few_looked_up G ask.barriers ask.from c.in_ok-reached.reached.seen.items reached c.args.steps.now c.reach_seen.new.steps c.in_ok-reached.ensures.nodes reach (c.in_ok-reached.ensures.ticks (inl c.requires.untiered))
+
+pub is_valid-requires-clause-reached : goal.is_valid-requires-clause-reached
+is_valid-requires-clause-reached g c =
+    let G = g.G.Ground.stars_and_areas c.args.over.now in
+    let ask : CheckAsk = c.args.ask.now in
+    let seen : List Seen = c.as_slice.result.now in
+    let nodes : List Node = c.as_slice-2.result.now in
+    let items : seen ≡ c.in_ok-reached.reached.seen.items = c.as_slice.ensures.value in
+    let are : nodes ≡ nodes_of c.in_ok-reached.reached.seen.items = c.as_slice-2.ensures ∙ c.in_ok-nodes.ensures in
+    let reach : IsReachFrom G ask.barriers ask.from nodes = subst (IsReachFrom G ask.barriers ask.from) (sym are) c.in_ok-reached.ensures.nodes in
+    let entries : HaveEntries G seen = subst (HaveEntries G) (sym items) c.in_ok-reached.ensures.entries in
+    let none : dirt G nodes ≡ None = ap (dirt G) are ∙ sym c.in_ok-reached.ensures.dirt ∙ c.in_default.is in
+    are_reached G ask.barriers ask.from seen nodes (ap nodes_of items ∙ sym are) reach entries none c.requires.untiered c.requires.own_ports
+
+pub is_valid-requires-clause-from : goal.is_valid-requires-clause-from
+is_valid-requires-clause-from g c =
+    let G = g.G.Ground.stars_and_areas c.args.over.now in
+    let ask : CheckAsk = c.args.ask.now in
+    let nodes : List Node = c.as_slice-2.result.now in
+    let are : nodes ≡ nodes_of c.in_ok-reached.reached.seen.items = c.as_slice-2.ensures ∙ c.in_ok-nodes.ensures in
+    reached_from G ask.barriers ask.from nodes (subst (IsReachFrom G ask.barriers ask.from) (sym are) c.in_ok-reached.ensures.nodes)
+
+pub returns-in-Some-clause-answer : goal.returns-in-Some-clause-answer
+returns-in-Some-clause-answer g c =
+    let G = g.G.Ground.stars_and_areas c.args.over.now in
+    let ask : CheckAsk = c.args.ask.now in
+    let nodes : List Node = nodes_of c.in_ok-reached.reached.seen.items in
+    record {
+      reached = nodes;
+      reach = c.in_ok-reached.ensures.nodes;
+      is = subst (λ (o : Option Dirt). IsVerdictGivenDirt o G ask nodes (DirtyGround c.in-Some.dirt)) (sym c.in-Some.is ∙ c.in_ok-reached.ensures.dirt) refl;
+    }
+
+pub returns-clause-answer : goal.returns-clause-answer
+returns-clause-answer g c =
+    let G = g.G.Ground.stars_and_areas c.args.over.now in
+    let ask : CheckAsk = c.args.ask.now in
+    let nodes : List Node = c.as_slice-2.result.now in
+    let are : nodes ≡ nodes_of c.in_ok-reached.reached.seen.items = c.as_slice-2.ensures ∙ c.in_ok-nodes.ensures in
+    let none : dirt G nodes ≡ None = ap (dirt G) are ∙ sym c.in_ok-reached.ensures.dirt ∙ c.in_default.is in
+    record {
+      reached = nodes;
+      reach = subst (IsReachFrom G ask.barriers ask.from) (sym are) c.in_ok-reached.ensures.nodes;
+      is = subst (λ (o : Option Dirt). IsVerdictGivenDirt o G ask nodes c.verdict.result) (sym none)
+          (subst (IsVerdict G ask nodes) (sym c.verdict.ensures) (judged G ask nodes c.in_ok-valid.valid c.in_ok-valid.ensures));
+    }
