@@ -1,20 +1,19 @@
 -- The labels and the walk that are found for a path are a valid certificate.
-use Rattle.std.proofs.Common.{◌≡◌, ℕ, ◌+◌, ◌≤◌, zero, suc, Bool, true, false, List, [], ◌∷◌, ◌++◌, Option, Some, None, ◌⊎◌, inl, inr, refl, sym, ap, subst, ◌∙◌, arith}
-use Rattle.std.specs.Prelude.{Contains, IsTrue, MatchOption}
+use Rattle.std.proofs.Common.{◌≡◌, ℕ, ◌≤◌, Bool, true, List, [], ◌∷◌, ◌++◌, Option, Some, None, ◌⊎◌, inl, inr, refl, sym, ap, subst, ◌∙◌, arith}
+use Rattle.std.specs.Prelude.{Contains, MatchOption}
 use Rattle.std.specs.declared.cmp.Ordering.{Ordering}
 use Rattle.std.specs.declared.cmp.Ordering.TheVariants.{Less, Equal, Greater}
-use Rattle.std.specs.Ordering.{nat_cmp, ordering_then, is_le}
+use Rattle.std.specs.Ordering.{ordering_then, is_le}
 use Rattle.std.proofs.lemmas.Map.Keys.{le_from_is_le}
 use Rattle.un_defs.specs.declared.port.Port.{Port}
 use Rattle.un_defs.specs.declared.port.Node.{Node}
 use Rattle.un_defs.specs.Reach.{IsReach}
-use Rattle.un_defs.proofs.LinkCases.{some_same}
 use Rattle.un_defs.proofs.Members.{contains_from_among}
 use Rattle.un_path.specs.declared.ask.Label.{Label}
 use Rattle.un_path.specs.declared.ask.CheckAsk.{CheckAsk}
 use Rattle.un_path.specs.declared.answer.PathFound.{PathFound}
 use Rattle.un_path.specs.Costs.{walk_cost}
-use Rattle.un_path.specs.Paths.{IsWalk, IsBestWalk, IsLeastCost, IsToldOf, AreLeastCosts, IsPathFound, ports_of}
+use Rattle.un_path.specs.Paths.{IsWalk, IsBestWalk, IsLeastCost, IsToldOf, AreLeastCosts, IsPathFound}
 use Rattle.un_path.specs.Valid.{label_at, KeepsSteps, IsLabelledWalk, IsValid}
 use Rattle.un_path.proofs.Labelled.{label_from, label_of, walk_from, walk_to, one_further, further_cost, from_reached}
 

@@ -1,8 +1,8 @@
 -- The hops by the links of a node are the steps that lead from it.
-use Rattle.std.proofs.Common.{rules, ◌≡◌, ◌≢◌, ◌↔◌, ℕ, ◌+◌, ◌<◌, ◌≤◌, nat_cmp, Less, Bool, true, false, not, ◌&&◌, List, [], ◌∷◌, ◌++◌, map, filter, Option, Some, None, inl, inr, refl, sym, ap, subst, ◌∙◌, arith, true≢false}
-use Rattle.std.specs.Prelude.{slice_get, unwrap_or, Contains, IsTrue, if◌then◌else◌, ◌||◌}
+use Rattle.std.proofs.Common.{rules, ◌≡◌, ℕ, ◌<◌, ◌≤◌, nat_cmp, Less, Bool, true, false, not, ◌&&◌, List, [], ◌∷◌, ◌++◌, filter, Option, Some, None, inl, inr, refl, sym, ap, subst, ◌∙◌, arith, true≢false}
+use Rattle.std.specs.Prelude.{slice_get, unwrap_or, Contains, if◌then◌else◌, ◌||◌}
 use Rattle.std.specs.List.{list_any}
-use Rattle.std.specs.Option.{option_copied, option_map, option_map_or}
+use Rattle.std.specs.Option.{option_map, option_map_or}
 use Rattle.std.proofs.lemmas.Option.{slice_get_within, slice_get-map, get_or_from_slice_get}
 use Rattle.std.specs.Cmp.{nat_cmp_total}
 use Rattle.std.specs.FinMap.{nat_cmp-IsAntisymmetric}
@@ -21,14 +21,14 @@ use Rattle.un_defs.proofs.Members.{among_from_contains, contains_from_among, amo
 use Rattle.un_defs.proofs.LinkCases.{both_true, true_both, some_same}
 use Rattle.un_defs.proofs.Unique.{node_same, node_itself}
 use Rattle.un_walk.specs.declared.seen.Seen.{Seen}
-use Rattle.un_walk.specs.Seen.{spot_of, nodes_of, is_barrier_by}
+use Rattle.un_walk.specs.Seen.{spot_of, is_barrier_by}
 use Rattle.un_walk.proofs.DirtMet.{least_among, least_low, none_low}
 use Rattle.un_walk.proofs.Entered.{each_entry}
 use Rattle.un_path.specs.declared.ask.Weight.{Weight}
 use Rattle.un_path.specs.declared.hops.Hop.{Hop}
 use Rattle.un_path.specs.Costs.{is_segment, segment_cost, link_cost, link_costs, step_cost}
 use Rattle.un_path.specs.Hops.{cost_by, IsAt, IsHopBy, AreHopsBy, AreReached, AreHops}
-use Rattle.un_path.proofs.Places.{place_from, contains_at}
+use Rattle.un_path.proofs.Places.{place_from}
 
 -- ---- the least of some costs
 

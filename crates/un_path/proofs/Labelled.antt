@@ -1,22 +1,21 @@
 -- Labels by port, and what they say of walks.
-use Rattle.std.proofs.Common.{◌≡◌, ℕ, ◌+◌, ◌≤◌, zero, suc, ◌==◌, ◌&&◌, Bool, true, false, cond, List, [], ◌∷◌, map, Option, Some, None, inl, inr, refl, sym, ap, subst, ◌∙◌, arith, true≢false, ◌++◌, length, ◌⊎◌}
+use Rattle.std.proofs.Common.{◌≡◌, ℕ, ◌+◌, ◌≤◌, Bool, true, false, cond, List, [], ◌∷◌, Some, inl, inr, refl, sym, ap, subst, ◌∙◌, arith, true≢false, ◌++◌, length}
 use Rattle.std.specs.Prelude.{Contains, IsTrue, find}
 use Rattle.std.specs.Option.{option_map}
 use Rattle.un_defs.specs.declared.port.Port.{Port}
 use Rattle.un_defs.specs.declared.port.Node.{Node}
 use Rattle.un_defs.specs.Orders.{same_port}
 use Rattle.un_defs.specs.Reach.{Follow, last_node, IsReach, Walk}
-use Rattle.un_defs.specs.Linked.{HaveOwnPorts}
 use Rattle.un_defs.proofs.LinkCases.{some_same}
 use Rattle.un_defs.proofs.Unique.{port_same, port_itself}
-use Rattle.un_defs.proofs.Members.{contains_from_among, among_from_contains, among-map, among_from-map}
+use Rattle.un_defs.proofs.Members.{contains_from_among, among_from_contains, among-map}
 use Rattle.un_defs.proofs.Rising.{Among}
 use Rattle.un_defs.proofs.Walking.{walk_on, walk_from_start}
 use Rattle.un_path.specs.declared.ask.Label.{Label}
 use Rattle.un_path.specs.declared.ask.CheckAsk.{CheckAsk}
 use Rattle.un_path.specs.Costs.{cost_after, walk_cost}
 use Rattle.un_path.specs.Paths.{IsWalk, ports_of, label_ports}
-use Rattle.un_path.specs.Valid.{label_at, KeepsSteps, IsLabelledWalk, IsValid, ShowsLeast}
+use Rattle.un_path.specs.Valid.{label_at, KeepsSteps, IsValid, ShowsLeast}
 
 -- ---- where each step keeps to the labels, each walk does
 

@@ -1,8 +1,13 @@
+pub mod Back
+pub mod Best
 pub mod Certified
 pub mod Checks
 pub mod Following
 pub mod Hopping
 pub mod Labelled
 pub mod Places
+pub mod Pushing
 pub mod Reaching
 pub mod RightWalk
+pub mod Searching
+pub mod Traced

@@ -1,6 +1,6 @@
 -- Places of nodes in order, and what a binary search finds among them.
-use Rattle.std.proofs.Common.{◌≡◌, ◌↔◌, ℕ, zero, suc, ◌<◌, List, [], ◌∷◌, length, get_or, Option, Some, None, Result, Ok, Err, inl, inr, refl, sym, ap, subst, subst₂, ◌∙◌, arith}
-use Rattle.std.specs.Prelude.{slice_get, Contains}
+use Rattle.std.proofs.Common.{◌≡◌, ◌↔◌, ℕ, zero, suc, ◌<◌, List, [], ◌∷◌, length, get_or, Some, None, Result, Ok, Err, inl, inr, refl, sym, ap, subst, subst₂, ◌∙◌, arith}
+use Rattle.std.specs.Prelude.{Contains}
 use Rattle.std.specs.Result.{result_ok}
 use Rattle.std.specs.declared.cmp.Ordering.{Ordering}
 use Rattle.std.specs.declared.cmp.Ordering.TheVariants.{Less, Equal, Greater}
@@ -16,8 +16,6 @@ use Rattle.un_defs.specs.contracts.port.NodeOrd.TheImpl as by_node
 use Rattle.un_defs.specs.declared.port.Node.{Node}
 use Rattle.un_defs.specs.Orders.{node_cmp}
 use Rattle.un_defs.proofs.LinkCases.{some_same}
-use Rattle.un_defs.proofs.Members.{contains_from_among, among_from_contains}
-use Rattle.un_defs.proofs.Rising.{Among}
 use Rattle.un_defs.proofs.OrderLaws.{node_total, node_ties}
 use Rattle.un_path.specs.Hops.{IsAt}
 

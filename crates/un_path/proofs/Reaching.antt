@@ -1,12 +1,12 @@
 -- What holds of the nodes that walks from one node reach.
-use Rattle.std.proofs.Common.{◌≡◌, ℕ, ◌+◌, ◌≤◌, false, Bool, true, List, [], ◌∷◌, length, None, Some, Option, inl, refl, sym, ap, subst, ◌∙◌, arith}
-use Rattle.std.specs.Prelude.{Contains, IsTrue}
+use Rattle.std.proofs.Common.{◌≡◌, ℕ, ◌+◌, ◌≤◌, List, [], ◌∷◌, length, None, inl, refl, ap, arith}
+use Rattle.std.specs.Prelude.{Contains}
 use Rattle.std.proofs.lemmas.List.{length-map}
 use Rattle.un_defs.specs.declared.port.Node.{Node}
 use Rattle.un_defs.specs.declared.walk.Barriers.{Barriers}
 use Rattle.un_defs.specs.declared.walk.Mode.TheVariants.{Any}
-use Rattle.un_defs.specs.Ground.{Ground, is_dirty}
-use Rattle.un_defs.specs.Reach.{IsReach, leads, dirt}
+use Rattle.un_defs.specs.Ground.{Ground}
+use Rattle.un_defs.specs.Reach.{leads, dirt}
 use Rattle.un_defs.proofs.FreshLinked.{clean}
 use Rattle.un_defs.proofs.Members.{contains_from_among, among_from_contains}
 use Rattle.un_defs.proofs.OrderLaws.{node_total}

@@ -1,5 +1,5 @@
 -- When the ports of a certificate are those of a walk with its label's cost.
-use Rattle.std.proofs.Common.{◌≡◌, ◌≢◌, ◌<◌, ℕ, Bool, List, [], ◌∷◌, map, length, get_or, arith, Option, Some, None, ◌⊎◌, inl, inr, refl, sym, ap, subst, ◌∙◌}
+use Rattle.std.proofs.Common.{◌≡◌, ◌<◌, ℕ, Bool, List, [], ◌∷◌, map, length, get_or, arith, Some, None, inl, inr, refl, sym, ap, subst, ◌∙◌}
 use Rattle.std.specs.Prelude.{slice_get, slice_index, Contains}
 use Rattle.std.specs.Option.{option_map}
 use Rattle.std.specs.List.Sorted.{IsStrictlySortedBy}
@@ -16,11 +16,10 @@ use Rattle.un_path.specs.declared.ask.Label.{Label}
 use Rattle.un_path.specs.declared.ask.CheckAsk.{CheckAsk}
 use Rattle.un_path.specs.declared.walks.WalkEnd.{WalkEnd}
 use Rattle.un_path.specs.Checking.{HaveCosts, Goes, IsEndOf, EndsAt, HasRightWalk}
-use Rattle.un_path.specs.Costs.{walk_cost, cost_after}
-use Rattle.un_path.specs.Hops.{IsAt}
-use Rattle.un_path.specs.Paths.{IsWalk, ports_of, label_ports}
+use Rattle.un_path.specs.Costs.{walk_cost}
+use Rattle.un_path.specs.Paths.{ports_of, label_ports}
 use Rattle.un_path.specs.Valid.{label_at, KeepsSteps, IsLabelledWalk, IsValid}
-use Rattle.un_path.proofs.Places.{place_from, contains_at, one_place}
+use Rattle.un_path.proofs.Places.{contains_at, one_place}
 use Rattle.un_path.proofs.Following.{node_at}
 use Rattle.un_path.proofs.Labelled.{has_label, label_from}
 

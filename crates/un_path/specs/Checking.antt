@@ -1,5 +1,5 @@
 -- What is looked at in a certificate, by the places of the reached nodes.
-use Rattle.std.specs.Prelude.{◌≡◌, ◌↔◌, ℕ, ◌+◌, ◌≤◌, ◌⊎◌, Bool, true, false, List, [], Contains, Option, Some, None, slice_get, slice_index, MatchOption}
+use Rattle.std.specs.Prelude.{◌≡◌, ◌↔◌, ℕ, ◌+◌, ◌≤◌, ◌⊎◌, Bool, true, false, List, [], Contains, Option, Some, slice_get, slice_index, MatchOption}
 use Rattle.std.specs.Option.{option_map_or}
 use Rattle.un_defs.specs.declared.port.Port.{Port}
 use Rattle.un_defs.specs.declared.port.Node.{Node}

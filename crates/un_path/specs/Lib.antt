@@ -4,4 +4,6 @@ pub mod Costs
 pub mod Hops
 pub mod Laws
 pub mod Paths
+pub mod Search
+pub mod Settled
 pub mod Valid

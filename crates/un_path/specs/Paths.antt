@@ -5,16 +5,11 @@ use Rattle.std.specs.Ordering.{nat_cmp, ordering_then, is_le}
 use Rattle.std.specs.Cmp.Lexicographic.{slice_cmp}
 use Rattle.un_defs.specs.declared.port.Port.{Port}
 use Rattle.un_defs.specs.declared.port.Node.{Node}
-use Rattle.un_defs.specs.declared.walk.Mode.TheVariants.{Any}
-use Rattle.un_defs.specs.declared.walk.Barriers.{Barriers}
 use Rattle.un_defs.specs.Orders.{node_cmp}
-use Rattle.un_defs.specs.Ground.{Ground}
-use Rattle.un_defs.specs.Reach.{Follow, last_node, leads}
-use Rattle.un_path.specs.declared.ask.Weight.{Weight}
+use Rattle.un_defs.specs.Reach.{Follow, last_node}
 use Rattle.un_path.specs.declared.ask.Label.{Label}
-use Rattle.un_path.specs.declared.ask.PathAsk.{PathAsk}
 use Rattle.un_path.specs.declared.answer.PathFound.{PathFound}
-use Rattle.un_path.specs.Costs.{step_cost, walk_cost}
+use Rattle.un_path.specs.Costs.{walk_cost}
 
 -- the nodes of a walk from one node to another, both included
 pub record IsWalk (step : Node → Node → Bool) (from to : Node) (nodes : List Node) : Type 0 where

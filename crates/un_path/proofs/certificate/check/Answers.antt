@@ -1,4 +1,4 @@
-use Rattle.std.proofs.Common.{◌≡◌, ℕ, ◌≤◌, ◌+◌, Bool, true, false, List, [], ◌∷◌, length, Option, Some, None, inl, sym, ap, subst, ◌∙◌, refl}
+use Rattle.std.proofs.Common.{◌≡◌, Bool, true, false, List, Option, None, inl, sym, ap, subst, ◌∙◌, refl}
 use Rattle.std.specs.Bool.{MatchBool}
 use Rattle.un_defs.specs.declared.port.Node.{Node}
 use Rattle.un_defs.specs.declared.walk.Dirt.{Dirt}
@@ -7,10 +7,8 @@ use Rattle.un_defs.specs.Reach.{dirt}
 use Rattle.un_walk.specs.declared.seen.Seen.{Seen}
 use Rattle.un_walk.specs.Seen.{nodes_of, HaveEntries}
 use Rattle.un_path.specs.declared.ask.CheckAsk.{CheckAsk}
-use Rattle.un_path.specs.declared.answer.CheckAnswer.{CheckAnswer}
 use Rattle.un_path.specs.declared.answer.CheckAnswer.TheVariants.{DirtyGround}
 use Rattle.un_path.specs.Answer.{IsReachFrom, IsValidOver, IsVerdict, IsVerdictGivenDirt, verdict}
-use Rattle.un_path.specs.Hops.{AreReached}
 use Rattle.un_path.proofs.Reaching.{reached_from, are_reached, few_looked_up}
 use Rattle.un_path.proofs.certificate.check.Goals as goal
 

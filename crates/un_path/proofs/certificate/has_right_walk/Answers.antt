@@ -1,5 +1,4 @@
-use Rattle.std.proofs.Common.{rules, arith, ◌≡◌, ◌<◌, ℕ, Bool, List, [], ◌∷◌, Option, length, Some, None, is_some, not, true, false, sym, ap, subst, refl, ◌∙◌, true≢false}
-use Rattle.std.specs.Prelude.{MatchOption}
+use Rattle.std.proofs.Common.{arith, ◌≡◌, ℕ, Bool, List, [], ◌∷◌, Option, length, Some, None, is_some, not, true, false, sym, subst, refl, ◌∙◌, true≢false}
 use Rattle.std.specs.Bool.{MatchBool}
 use Rattle.std.proofs.lemmas.Option.{slice_get_within}
 use Rattle.un_defs.specs.declared.port.Port.{Port}
@@ -9,12 +8,11 @@ use Rattle.un_defs.specs.Reach.{leads}
 use Rattle.un_defs.specs.Orders.{same_port}
 use Rattle.un_defs.proofs.Unique.{port_same}
 use Rattle.un_path.specs.declared.ask.CheckAsk.{CheckAsk}
-use Rattle.un_path.specs.declared.walks.WalkEnd.{WalkEnd}
-use Rattle.un_path.specs.Checking.{HasRightWalk, IsEndOf, EndsAt}
+use Rattle.un_path.specs.Checking.{HasRightWalk, IsEndOf}
 use Rattle.un_path.specs.Costs.{step_cost}
 use Rattle.un_path.specs.Hops.{IsAt}
 use Rattle.un_path.proofs.Places.{place_from, contains_at}
-use Rattle.un_path.proofs.RightWalk.{none_right, none_wrong, begins, endless_wrong, end_right, right_end}
+use Rattle.un_path.proofs.RightWalk.{none_right, none_wrong, endless_wrong, end_right, right_end}
 use Rattle.un_path.proofs.certificate.has_right_walk.Goals as goal
 
 empty_from : {A : Type 0} (l : List A) → length l ≡ 0 → l ≡ []

@@ -1,11 +1,10 @@
-use Rattle.std.proofs.Common.{◌≡◌, ℕ, pos, true, false, not, List, get_or, sym, ap, subst, ◌∙◌, true≢false}
+use Rattle.std.proofs.Common.{◌≡◌, ℕ, pos, true, not, List, get_or, sym, ap, ◌∙◌, true≢false}
 use Rattle.std.proofs.Math.ListN.{get_or-map}
 use Rattle.un_defs.specs.declared.port.Port.{Port}
 use Rattle.un_defs.specs.declared.port.Node.{Node}
 use Rattle.un_defs.specs.Orders.{same_port}
 use Rattle.un_defs.proofs.Unique.{port_itself}
 use Rattle.un_path.specs.declared.ask.Label.{Label}
-use Rattle.un_path.specs.Paths.{ports_of, label_ports}
 use Rattle.un_path.proofs.certificate.have_ports.Goals as goal
 
 abbrev no_port : Port

@@ -1,4 +1,4 @@
-use Rattle.std.proofs.Common.{rules, arith, ◌≡◌, ◌<◌, ℕ, length, Some, refl}
+use Rattle.std.proofs.Common.{rules, arith, ◌<◌, length, refl}
 use Rattle.std.proofs.lemmas.Option.{slice_get_within}
 use Rattle.un_path.proofs.certificate.is_end.Goals as goal
 

@@ -1,16 +1,15 @@
-use Rattle.std.proofs.Common.{rules, arith, ◌≡◌, ◌<◌, ℕ, Bool, true, false, List, Result, Ok, Err, length, map, Some, refl, sym, ap, subst, ◌∙◌, true≢false}
-use Rattle.std.specs.Prelude.{IfOk, slice_get, slice_index}
+use Rattle.std.proofs.Common.{arith, ◌≡◌, ◌<◌, Bool, true, false, List, Result, Ok, Err, length, map, Some, refl, sym, ap, subst, ◌∙◌, true≢false}
+use Rattle.std.specs.Prelude.{IfOk, slice_index}
 use Rattle.std.specs.Bool.{MatchBool}
-use Rattle.std.proofs.lemmas.Option.{slice_get-get_or, slice_get_within, slice_get_read}
+use Rattle.std.proofs.lemmas.Option.{slice_get_within}
 use Rattle.un_defs.specs.declared.port.Node.{Node}
 use Rattle.un_defs.specs.declared.walk.Mode.TheVariants.{Any}
-use Rattle.un_defs.specs.Ground.{Ground}
 use Rattle.un_defs.specs.Reach.{leads}
 use Rattle.un_defs.proofs.LinkCases.{some_same}
 use Rattle.un_path.specs.declared.ask.Label.{Label}
 use Rattle.un_path.specs.declared.ask.CheckAsk.{CheckAsk}
 use Rattle.un_path.specs.Answer.{IsValidOver}
-use Rattle.un_path.specs.Checking.{HaveCosts, HasRightWalk}
+use Rattle.un_path.specs.Checking.{HaveCosts}
 use Rattle.un_path.specs.Costs.{step_cost}
 use Rattle.un_path.specs.Hops.{IsAt}
 use Rattle.un_path.specs.Paths.{label_ports, ports_of}

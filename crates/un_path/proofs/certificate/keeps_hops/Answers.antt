@@ -1,5 +1,4 @@
-use Rattle.std.proofs.Common.{rules, arith, ◌≡◌, ◌<◌, ℕ, List, length, get_or, take_all, subst, sym, take}
-use Rattle.std.specs.Prelude.{Contains}
+use Rattle.std.proofs.Common.{rules, ◌<◌, length, get_or, take_all, subst}
 use Rattle.un_walk.proofs.Growing.{contains_at}
 use Rattle.un_path.specs.declared.hops.Hop.{Hop}
 use Rattle.un_path.specs.Checking.{KeepsHops}

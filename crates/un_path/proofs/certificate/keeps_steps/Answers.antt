@@ -1,13 +1,11 @@
-use Rattle.std.proofs.Common.{◌≡◌, ℕ, ◌+◌, ◌<◌, ◌≤◌, List, length, false, inl, inr, sym, ap, subst, ◌∙◌, arith}
-use Rattle.std.specs.Prelude.{Contains, slice_get, slice_index}
-use Rattle.std.specs.Bool.{MatchBool}
+use Rattle.std.proofs.Common.{◌≡◌, List, inl, inr, sym, subst, arith}
+use Rattle.std.specs.Prelude.{Contains, slice_index}
 use Rattle.std.proofs.lemmas.Bool.{cases_lt}
 use Rattle.std.proofs.lemmas.Option.{slice_get_within}
 use Rattle.un_defs.specs.declared.port.Node.{Node}
-use Rattle.un_defs.proofs.LinkCases.{some_same}
 use Rattle.un_path.specs.declared.hops.Hop.{Hop}
 use Rattle.un_path.specs.Checking.{KeepsHops}
-use Rattle.un_path.specs.Hops.{IsAt, AreHops}
+use Rattle.un_path.specs.Hops.{IsAt}
 use Rattle.un_path.proofs.Following.{node_at, keeps_from, keeps_hops_by}
 use Rattle.un_path.proofs.Places.{place_from}
 use Rattle.un_path.proofs.certificate.keeps_steps.Goals as goal

@@ -1,4 +1,4 @@
-use Rattle.std.proofs.Common.{◌≡◌, ℕ, pos, false, List, [], get_or, take, sym, ap, refl, subst, subst₂, ◌∙◌, Vec, Global}
+use Rattle.std.proofs.Common.{◌≡◌, pos, false, List, get_or, take, sym, ap, refl, subst₂, ◌∙◌, Vec, Global}
 use Rattle.std.specs.Prelude.{Some, None}
 use Rattle.std.proofs.lemmas.List.{take_more}
 use Rattle.un_defs.specs.declared.link.Tie.{Tie}

@@ -1,21 +1,15 @@
-use Rattle.std.proofs.Common.{rules, arith, ◌≡◌, ℕ, ◌<◌, length, true, false, ◌||◌, List, [], get_or, Option, Some, None, Result, Ok, Err, sym, ap, refl, subst, ◌∙◌}
-use Rattle.std.specs.Prelude.{slice_get, IfOk, Contains}
-use Rattle.std.specs.List.{list_any}
-use Rattle.std.specs.Option.{option_copied, option_map, option_map_or}
+use Rattle.std.proofs.Common.{rules, arith, ◌≡◌, ◌<◌, length, true, false, List, Some, None, Result, Ok, Err, sym, ap, refl, subst, ◌∙◌}
+use Rattle.std.specs.Prelude.{slice_get, IfOk}
+use Rattle.std.specs.Option.{option_copied}
 use Rattle.std.proofs.lemmas.List.{length-map}
-use Rattle.std.proofs.lemmas.Option.{slice_get_within, slice_get_read, slice_get-map}
+use Rattle.std.proofs.lemmas.Option.{slice_get_read}
 use Rattle.un_defs.specs.declared.port.Node.{Node}
 use Rattle.un_defs.specs.declared.star.Spot.{Spot}
-use Rattle.un_defs.specs.Ground.{Ground, entry}
-use Rattle.un_defs.specs.Orders.{same_port}
-use Rattle.un_defs.specs.Reach.{is_barrier, meets_condition}
-use Rattle.un_defs.proofs.LinkCases.{some_same}
-use Rattle.un_defs.proofs.Members.{among_from_contains}
+use Rattle.un_defs.specs.Ground.{entry}
+use Rattle.un_defs.specs.Reach.{is_barrier}
 use Rattle.un_walk.specs.declared.seen.Seen.{Seen}
-use Rattle.un_walk.specs.Seen.{node_of, spot_of, nodes_of, is_barrier_by}
-use Rattle.un_walk.proofs.Entered.{each_entry}
-use Rattle.un_path.specs.declared.hops.Hop.{Hop}
-use Rattle.un_path.specs.Hops.{IsAt, AreHops, AreHopsBy, AreReached}
+use Rattle.un_walk.specs.Seen.{node_of}
+use Rattle.un_path.specs.Hops.{AreHops}
 use Rattle.un_path.proofs.Hopping.{no_hops, no_entry, hops_are, barrier_is, entry_is}
 use Rattle.un_path.proofs.Places.{contains_at}
 use Rattle.un_path.proofs.hops.hops_from.Goals as goal

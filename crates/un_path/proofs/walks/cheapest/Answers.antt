@@ -1,4 +1,4 @@
-use Rattle.std.proofs.Common.{◌≡◌, ◌≤◌, ℕ, true, false, List, get_or, take, sym, ap, subst, subst₂, ◌∙◌, Option, Some, None, arith}
+use Rattle.std.proofs.Common.{◌≡◌, List, get_or, take, sym, subst, subst₂, ◌∙◌, Some, arith}
 use Rattle.std.proofs.lemmas.List.{take_more}
 use Rattle.un_path.specs.declared.hops.Hop.{Hop}
 use Rattle.un_path.specs.Checking.{IsCheapest, is_to}

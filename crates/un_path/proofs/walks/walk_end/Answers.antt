@@ -1,4 +1,4 @@
-use Rattle.std.proofs.Common.{◌≡◌, ◌↔◌, ℕ, ◌+◌, ◌*◌, ◌<◌, ◌≤◌, List, [], ◌∷◌, length, get_or, drop, drop-cons, add-one, Some, None, refl, sym, ap, subst, ◌∙◌, arith}
+use Rattle.std.proofs.Common.{◌≡◌, ℕ, ◌+◌, ◌<◌, List, [], ◌∷◌, length, get_or, drop, drop-cons, add-one, Some, None, refl, sym, ap, subst, ◌∙◌, arith}
 use Rattle.std.proofs.Math.ListN.{drop_of_length-le}
 use Rattle.std.proofs.lemmas.Option.{slice_get_within}
 use Rattle.un_defs.specs.declared.port.Port.{Port}
@@ -7,9 +7,8 @@ use Rattle.un_defs.specs.declared.walk.Mode.TheVariants.{Any}
 use Rattle.un_defs.specs.Reach.{leads}
 use Rattle.un_defs.proofs.LinkCases.{some_same}
 use Rattle.un_path.specs.declared.hops.Hop.{Hop}
-use Rattle.un_path.specs.Checking.{IsCheapest, Goes, GoesOn}
+use Rattle.un_path.specs.Checking.{IsCheapest, GoesOn}
 use Rattle.un_path.specs.Costs.{step_cost}
-use Rattle.un_path.specs.Hops.{IsAt}
 use Rattle.un_path.proofs.Following.{node_at, goes_nowhere, goes_on, goes_never, goes_by_cheapest}
 use Rattle.un_path.proofs.walks.walk_end.Goals as goal
 

@@ -1,4 +1,4 @@
-use Rattle.std.proofs.Common.{ℕ, ◌*◌, ◌<◌, ◌≤◌, ◌^◌, length, drop}
+use Rattle.std.proofs.Common.{◌*◌, ◌<◌, ◌≤◌, length, drop}
 use Rattle.un_defs.specs.declared.port.Node.{Node}
 use Rattle.un_defs.specs.declared.walk.Mode.TheVariants.{Any}
 use Rattle.un_defs.specs.Reach.{leads}

@@ -1,0 +1,34 @@
+use Rattle.std.proofs.Common.{◌≡◌, List, None, inl, sym, ap, subst, ◌∙◌}
+use Rattle.un_defs.specs.declared.port.Node.{Node}
+use Rattle.un_defs.specs.Reach.{dirt}
+use Rattle.un_walk.specs.declared.seen.Seen.{Seen}
+use Rattle.un_walk.specs.Seen.{nodes_of, HaveEntries}
+use Rattle.un_path.specs.declared.ask.PathAsk.{PathAsk}
+use Rattle.un_path.specs.Answer.{IsReachFrom}
+use Rattle.un_path.proofs.Reaching.{are_reached, few_looked_up}
+use Rattle.un_path.proofs.shortest.path.Goals as goal
+
+pub returns-in-Some-clause-ticks : goal.returns-in-Some-clause-ticks
+returns-in-Some-clause-ticks g c = λ reached reach.
+    let G = g.G.Ground.stars_and_areas c.args.over.now in
+    let ask : PathAsk = c.args.ask.now in
+    few_looked_up G ask.barriers ask.from c.in_ok-reached.reached.seen.items reached c.args.steps.now c.reach_seen.new.steps c.in_ok-reached.ensures.nodes reach (c.in_ok-reached.ensures.ticks (inl c.requires.untiered))
+
+pub returns-clause-ticks : goal.returns-clause-ticks
+returns-clause-ticks g c = λ reached reach.
+    let G = g.G.Ground.stars_and_areas c.args.over.now in
+    let ask : PathAsk = c.args.ask.now in
+    few_looked_up G ask.barriers ask.from c.in_ok-reached.reached.seen.items reached c.args.steps.now c.reach_seen.new.steps c.in_ok-reached.ensures.nodes reach (c.in_ok-reached.ensures.ticks (inl c.requires.untiered))
+
+pub path_among-requires-clause-reached : goal.path_among-requires-clause-reached
+path_among-requires-clause-reached g c =
+    let G = g.G.Ground.stars_and_areas c.args.over.now in
+    let ask : PathAsk = c.args.ask.now in
+    let seen : List Seen = c.as_slice.result.now in
+    let nodes : List Node = c.as_slice-2.result.now in
+    let items : seen ≡ c.in_ok-reached.reached.seen.items = c.as_slice.ensures.value in
+    let are : nodes ≡ nodes_of c.in_ok-reached.reached.seen.items = c.as_slice-2.ensures ∙ c.in_ok-nodes.ensures in
+    let reach : IsReachFrom G ask.barriers ask.from nodes = subst (IsReachFrom G ask.barriers ask.from) (sym are) c.in_ok-reached.ensures.nodes in
+    let entries : HaveEntries G seen = subst (HaveEntries G) (sym items) c.in_ok-reached.ensures.entries in
+    let none : dirt G nodes ≡ None = ap (dirt G) are ∙ sym c.in_ok-reached.ensures.dirt ∙ c.in_default.is in
+    are_reached G ask.barriers ask.from seen nodes (ap nodes_of items ∙ sym are) reach entries none c.requires.untiered c.requires.own_ports
