@@ -1,5 +1,5 @@
 -- The chain back from a node is its best walk.
-use Rattle.std.proofs.Common.{◌≡◌, ℕ, zero, suc, ◌+◌, ◌<◌, ◌≤◌, nat_cmp, Ordering, Less, Equal, Greater, Bool, true, List, [], ◌∷◌, length, reverse, inl, inr, refl, sym, ap, subst, ◌∙◌, arith, rules, true≢false}
+use Rattle.std.proofs.Common.{◌≡◌, ℕ, zero, suc, ◌+◌, ◌≤◌, nat_cmp, Ordering, Less, Equal, Greater, Bool, true, List, [], ◌∷◌, length, reverse, inl, inr, refl, sym, ap, subst, ◌∙◌, arith, true≢false}
 use Rattle.std.specs.Ordering.{ordering_then, is_le}
 use Rattle.std.specs.Cmp.Lexicographic.{slice_cmp}
 use Rattle.std.proofs.lemmas.Bool.{cases_lt}
@@ -11,13 +11,8 @@ use Rattle.un_defs.proofs.OrderLaws.{node_total, node_ties}
 use Rattle.un_path.specs.Costs.{walk_cost}
 use Rattle.un_path.specs.Paths.{IsWalk, IsBestWalk, IsLeastCost}
 use Rattle.un_path.specs.Settled.{AreSettled, IsChain}
+use Rattle.un_path.proofs.Numbers.{less_by, equal_by}
 use Rattle.un_path.proofs.Back.{Back, back_cost, walk_from_back, back_from_walk}
-
-less_by : (a b : ℕ) → a < b → nat_cmp a b ≡ Less
-less_by a b h = search rules
-
-equal_by : (a : ℕ) → nat_cmp a a ≡ Equal
-equal_by a = search rules
 
 -- a comparison by two numbers, then by more
 le_first : (a b : ℕ) (o : Ordering) → a ≤ b → (a ≡ b → is_le o ≡ true) → is_le (ordering_then (nat_cmp a b) o) ≡ true

@@ -1,9 +1,8 @@
 -- How a certificate is looked at hop by hop.
-use Rattle.std.proofs.Common.{◌≡◌, ◌↔◌, ℕ, zero, suc, ◌+◌, ◌<◌, ◌≤◌, Bool, true, false, List, [], ◌∷◌, ◌++◌, length, Option, Some, None, inl, inr, refl, sym, ap, subst, ◌∙◌, arith, true≢false, get_or}
+use Rattle.std.proofs.Common.{◌≡◌, ◌↔◌, ℕ, ◌+◌, ◌≤◌, Bool, true, false, List, [], ◌∷◌, ◌++◌, Option, Some, None, inl, inr, refl, sym, ap, subst, ◌∙◌, arith, true≢false}
 use Rattle.std.specs.Prelude.{slice_index, IsTrue}
 use Rattle.std.specs.Option.{option_map_or}
 use Rattle.std.proofs.lemmas.List.Elements.{Contains-append_left, Contains-push, Contains-push_cases}
-use Rattle.std.proofs.lemmas.Option.{slice_get-get_or}
 use Rattle.un_defs.specs.declared.port.Port.{Port}
 use Rattle.un_defs.specs.declared.port.Node.{Node}
 use Rattle.un_defs.specs.declared.walk.Barriers.{Barriers}
@@ -23,15 +22,6 @@ use Rattle.un_path.specs.Hops.{IsAt, AreReached, AreHops}
 use Rattle.un_path.specs.Paths.{ports_of}
 use Rattle.un_path.specs.Valid.{label_at, KeepsSteps}
 use Rattle.un_path.proofs.Places.{contains_at}
-
--- each place has a node
-get_or_any : (nodes : List Node) (i : ℕ) → i < length nodes → (n : Node) × (n ≡ get_or nodes i n)
-get_or_any [] i h = absurd (omega arith)
-get_or_any (y ∷ l) zero h = (y, refl)
-get_or_any (y ∷ l) (suc i) h = get_or_any l i (omega arith)
-
-pub node_at : (nodes : List Node) (i : ℕ) → i < length nodes → (n : Node) × IsAt nodes i n
-node_at nodes i h = let n = get_or_any nodes i h in (n.0, slice_get-get_or nodes i n.0 h ∙ ap Some (sym n.1))
 
 -- ---- the cheapest hop to a port, with one hop more
 

@@ -1,5 +1,5 @@
 -- The hops by the links of a node are the steps that lead from it.
-use Rattle.std.proofs.Common.{rules, ◌≡◌, ℕ, ◌<◌, ◌≤◌, nat_cmp, Less, Bool, true, false, not, ◌&&◌, List, [], ◌∷◌, ◌++◌, filter, Option, Some, None, inl, inr, refl, sym, ap, subst, ◌∙◌, arith, true≢false}
+use Rattle.std.proofs.Common.{◌≡◌, ℕ, ◌≤◌, nat_cmp, Bool, true, false, not, ◌&&◌, List, [], ◌∷◌, ◌++◌, filter, Option, Some, None, inl, inr, refl, sym, ap, subst, ◌∙◌, arith, true≢false}
 use Rattle.std.specs.Prelude.{slice_get, unwrap_or, Contains, if◌then◌else◌, ◌||◌}
 use Rattle.std.specs.List.{list_any}
 use Rattle.std.specs.Option.{option_map, option_map_or}
@@ -28,15 +28,13 @@ use Rattle.un_path.specs.declared.ask.Weight.{Weight}
 use Rattle.un_path.specs.declared.hops.Hop.{Hop}
 use Rattle.un_path.specs.Costs.{is_segment, segment_cost, link_cost, link_costs, step_cost}
 use Rattle.un_path.specs.Hops.{cost_by, IsAt, IsHopBy, AreHopsBy, AreReached, AreHops}
+use Rattle.un_path.proofs.Numbers.{less_by}
 use Rattle.un_path.proofs.Places.{place_from}
 
 -- ---- the least of some costs
 
 ties_are_one : (xs : List ℕ) → TiesAreOne nat_cmp xs
 ties_are_one xs x y h g e = nat_cmp-IsAntisymmetric x y e
-
-less_from_lt : (x y : ℕ) → x < y → nat_cmp x y ≡ Less
-less_from_lt x y h = search rules
 
 -- none is below it
 least_below : (xs : List ℕ) (c : ℕ) → Among xs c → unwrap_or (least nat_cmp xs) 0 ≤ c
@@ -45,7 +43,7 @@ least_below xs c h = go (least nat_cmp xs) refl
     go : (o : Option ℕ) → least nat_cmp xs ≡ o → unwrap_or o 0 ≤ c
     go None e = omega arith
     go (Some x) e = elim (cases_lt c x) [
-      | inl low ↦ absurd (least_low nat_cmp_total xs x c (ties_are_one xs) e h (less_from_lt c x low))
+      | inl low ↦ absurd (least_low nat_cmp_total xs x c (ties_are_one xs) e h (less_by c x low))
       | inr high ↦ high
     ]
 

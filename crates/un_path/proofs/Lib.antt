@@ -5,6 +5,7 @@ pub mod Checks
 pub mod Following
 pub mod Hopping
 pub mod Labelled
+pub mod Numbers
 pub mod Places
 pub mod Pushing
 pub mod Reaching

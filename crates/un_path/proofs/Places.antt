@@ -50,9 +50,12 @@ get_or_any [] i h = absurd (omega arith)
 get_or_any (y ∷ l) zero h = (y, refl)
 get_or_any (y ∷ l) (suc i) h = get_or_any l i (omega arith)
 
--- what stands at a place is among the nodes, and each of the nodes has a place
+-- what stands at a place is among the nodes, each place has a node, and each of the nodes has a place
 pub contains_at : (nodes : List Node) (i : ℕ) (n : Node) → IsAt nodes i n → Contains nodes n
 contains_at nodes i n at = (i, slice_get_within nodes i n at, get_or_from_slice_get nodes i n n at)
+
+pub node_at : (nodes : List Node) (i : ℕ) → i < length nodes → (n : Node) × IsAt nodes i n
+node_at nodes i h = let n = get_or_any nodes i h in (n.0, slice_get-get_or nodes i n.0 h ∙ ap Some (sym n.1))
 
 pub place_from : (nodes : List Node) (n : Node) → Contains nodes n → (i : ℕ) × IsAt nodes i n
 place_from nodes n h = (h.0, slice_get-get_or nodes h.0 n h.1 ∙ ap Some h.2)

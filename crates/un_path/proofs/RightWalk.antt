@@ -19,8 +19,7 @@ use Rattle.un_path.specs.Checking.{HaveCosts, Goes, IsEndOf, EndsAt, HasRightWal
 use Rattle.un_path.specs.Costs.{walk_cost}
 use Rattle.un_path.specs.Paths.{ports_of, label_ports}
 use Rattle.un_path.specs.Valid.{label_at, KeepsSteps, IsLabelledWalk, IsValid}
-use Rattle.un_path.proofs.Places.{contains_at, one_place}
-use Rattle.un_path.proofs.Following.{node_at}
+use Rattle.un_path.proofs.Places.{contains_at, one_place, node_at}
 use Rattle.un_path.proofs.Labelled.{has_label, label_from}
 
 heads : (p q : Port) (ps qs : List Port) → p ∷ ps ≡ q ∷ qs → p ≡ q

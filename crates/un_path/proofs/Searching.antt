@@ -1,5 +1,5 @@
 -- What a search for the best walks keeps, as places are settled.
-use Rattle.std.proofs.Common.{◌≡◌, ◌≢◌, ℕ, zero, suc, ◌+◌, ◌*◌, ◌<◌, ◌≤◌, nat_cmp, Ordering, Less, Equal, Bool, false, List, [], ◌∷◌, set, length, Option, Some, None, ◌⊎◌, inl, inr, refl, sym, ap, subst, ◌∙◌, arith, rules, true≢false}
+use Rattle.std.proofs.Common.{◌≡◌, ◌≢◌, ℕ, zero, suc, ◌+◌, ◌*◌, ◌<◌, ◌≤◌, nat_cmp, Ordering, Bool, false, List, [], ◌∷◌, set, length, Option, Some, None, ◌⊎◌, inl, inr, refl, sym, ap, subst, ◌∙◌, arith, true≢false}
 use Rattle.std.specs.Prelude.{slice_get, Contains, IsTrue}
 use Rattle.std.specs.declared.cmp.Reverse.{Reverse}
 use Rattle.std.specs.BinaryHeap.{IsUpperBound}
@@ -19,15 +19,10 @@ use Rattle.un_path.specs.declared.search.Arrival.{Arrival}
 use Rattle.un_path.specs.declared.search.Coming.{Coming}
 use Rattle.un_path.specs.Hops.{IsAt}
 use Rattle.un_path.specs.Search.{coming_cmp, turned_cmp, IsPendingIn, arrival_of, HasArrival, IsSettledAt, IsFree, free_count, IsNoLater, coming_by, first_arrival, first_coming, IsReal, IsServed, IsUnderWay, IsNext, IsDone}
+use Rattle.un_path.proofs.Numbers.{less_by, equal_by}
 use Rattle.un_path.proofs.Places.{one_place}
 
 -- ---- orders
-
-less_by : (a b : ℕ) → a < b → nat_cmp a b ≡ Less
-less_by a b h = search rules
-
-equal_by : (a : ℕ) → nat_cmp a a ≡ Equal
-equal_by a = search rules
 
 not_less : (a b : ℕ) (o : Ordering) → is_lt (ordering_then (nat_cmp a b) o) ≡ false → (b ≤ a) × (a ≡ b → is_lt o ≡ false)
 not_less a b o e = elim (cases_lt a b) [

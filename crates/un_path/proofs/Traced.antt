@@ -21,9 +21,8 @@ use Rattle.un_path.specs.Paths.{IsWalk, IsBestWalk, IsLeastCost, IsToldOf, AreLe
 use Rattle.un_path.specs.Search.{HasArrival, first_arrival, IsDone, HasBest, AreAllSettled, CanTrace, AreLabelsOf, IsFoundAt}
 use Rattle.un_path.specs.Settled.{AreSettled, IsChain}
 use Rattle.un_path.proofs.Best.{best, least, least_cost}
-use Rattle.un_path.proofs.Following.{node_at}
 use Rattle.un_path.proofs.Labelled.{walk_from, walk_to}
-use Rattle.un_path.proofs.Places.{contains_at, place_from, one_place, less_at}
+use Rattle.un_path.proofs.Places.{contains_at, place_from, one_place, less_at, node_at}
 
 one_arrival : (arrivals : List (Option Arrival)) (i : ℕ) (a b : Arrival) → HasArrival arrivals i a → HasArrival arrivals i b → a ≡ b
 one_arrival arrivals i a b f g = some_same a b (some_same (Some a) (Some b) (sym f ∙ g))

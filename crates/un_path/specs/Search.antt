@@ -111,6 +111,14 @@ module _ (step : Node → Node → Bool) (cost : Node → Node → ℕ) (nodes :
 
 -- ---- what a search that is done tells of nodes
 
+-- the place before, or none where there are no steps
+abbrev pub IsPlaceBefore : List (Option Arrival) → ℕ → Option ℕ → Type 0
+IsPlaceBefore arrivals i before = (a : Arrival) × HasArrival arrivals i a × MatchOption before (a.steps ≡ 0) (λ j. (a.from ≡ j) × (0 < a.steps))
+
+-- the number of steps that the best walk to the place takes
+abbrev pub steps_to : List (Option Arrival) → ℕ → ℕ
+steps_to arrivals i = option_map_or (λ o. option_map_or (λ a. a.steps) o 0) (slice_get arrivals i) 0
+
 module _ (nodes : List Node) (arrivals : List (Option Arrival)) where
   -- the best walk to the node costs so much, takes so many steps, and has this node before its last
   pub record HasBest (n : Node) (c h : ℕ) (u : Node) : Type 0 where
@@ -130,14 +138,6 @@ module _ (nodes : List Node) (arrivals : List (Option Arrival)) where
   abbrev pub CanTrace : Type 0
   CanTrace = (i : ℕ) (a : Arrival) → HasArrival arrivals i a
       → ((u : Node) × IsAt nodes a.from u) × (0 < a.steps → (b : Arrival) × HasArrival arrivals a.from b × (a.steps ≡ b.steps + 1))
-
-  -- the place before, or none where there are no steps
-  abbrev pub IsPlaceBefore : ℕ → Option ℕ → Type 0
-  IsPlaceBefore i before = (a : Arrival) × HasArrival arrivals i a × MatchOption before (a.steps ≡ 0) (λ j. (a.from ≡ j) × (0 < a.steps))
-
-  -- the number of steps that the best walk to the place takes
-  abbrev pub steps_to : ℕ → ℕ
-  steps_to i = option_map_or (λ o. option_map_or (λ a. a.steps) o 0) (slice_get arrivals i) 0
 
   -- the labels are the costs at the places
   pub record AreLabelsOf (labels : List Label) (k : ℕ) : Type 0 where

@@ -202,12 +202,14 @@ pub fn check<G: Ground, L>(
     steps: &mut Steps<L>,
 ) -> Result<CheckAnswer, AllocError>
     requires untiered { ask.now.barriers.tier ≡ None }
-    requires own_ports { HaveOwnPortsOnCleanGround (G.stars_and_areas over.now) ask.now.barriers ask.now.from }
+    requires own_ports { HaveOwnPortsOnCleanGround (G.stars_and_areas over.now)
+        ask.now.barriers ask.now.from }
     // The dirt where the walks met some, and else whether the certificate is valid.
     ensures answer { IfOk result (IsCheckAnswer (G.stars_and_areas over.now) ask.now) }
 
     // No more stars are looked up than nodes are reached.
-    ensures ticks { (reached : List Node) → IsReachFrom (G.stars_and_areas over.now) ask.now.barriers ask.now.from reached
+    ensures ticks { (reached : List Node)
+        → IsReachFrom (G.stars_and_areas over.now) ask.now.barriers ask.now.from reached
         → OnOk result (steps.new ≤ steps.old + length reached) }
     ensures never_falls { steps.old ≤ steps.new }
 {

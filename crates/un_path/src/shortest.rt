@@ -29,10 +29,10 @@ fn arrival_at(arrivals: &[Option<Arrival>], place: usize) -> Arrival
     arrivals[place].unwrap()
 }
 
-/// The place before this one on its best walk, `None` where that takes no steps. The nodes are there for the contract alone.
-fn place_before(_nodes: &[Node], arrivals: &[Option<Arrival>], place: usize) -> Option<usize>
-    requires settled { IsSettledAt arrivals.now place }
-    ensures { IsPlaceBefore _nodes.now arrivals.now place result }
+/// The place before this one on its best walk, `None` where that takes no steps.
+fn place_before(arrivals: &[Option<Arrival>], place: usize) -> Option<usize>
+    requires { IsSettledAt arrivals.now place }
+    ensures { IsPlaceBefore arrivals.now place result }
 {
     let arrival = arrival_at(arrivals, place);
     if arrival.steps > 0 {
@@ -58,7 +58,7 @@ fn trace_back(
     let mut ports = Vec::new(alloc);
     ports.push(nodes[to].port)?;
     let mut place = to;
-    while let Some(before) = place_before(nodes, arrivals, place) {
+    while let Some(before) = place_before(arrivals, place) {
         ports.push(nodes[before].port)?;
         place = before;
     }
@@ -148,12 +148,14 @@ pub fn path<G: Ground, L>(
     steps: &mut Steps<L>,
 ) -> Result<PathAnswer, AllocError>
     requires untiered { ask.now.barriers.tier ≡ None }
-    requires own_ports { HaveOwnPortsOnCleanGround (G.stars_and_areas over.now) ask.now.barriers ask.now.from }
+    requires own_ports { HaveOwnPortsOnCleanGround (G.stars_and_areas over.now)
+        ask.now.barriers ask.now.from }
     // The dirt where the walks met some, and else the best walk, or that there is none.
     ensures answer { IfOk result (IsPathAnswer (G.stars_and_areas over.now) ask.now) }
 
     // No more stars are looked up than nodes are reached.
-    ensures ticks { (reached : List Node) → IsReachFrom (G.stars_and_areas over.now) ask.now.barriers ask.now.from reached
+    ensures ticks { (reached : List Node)
+        → IsReachFrom (G.stars_and_areas over.now) ask.now.barriers ask.now.from reached
         → OnOk result (steps.new ≤ steps.old + length reached) }
     ensures never_falls { steps.old ≤ steps.new }
 {

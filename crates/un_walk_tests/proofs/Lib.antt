@@ -1,1 +1,2 @@
+pub mod OwnPorts
 pub mod PipeLinks

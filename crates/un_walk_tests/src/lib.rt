@@ -8,6 +8,8 @@ mod loops;
 #[cfg(test)]
 mod parts;
 #[cfg(test)]
+mod paths;
+#[cfg(test)]
 mod pipes;
 #[cfg(test)]
 mod pump;

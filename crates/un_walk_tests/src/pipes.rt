@@ -21,12 +21,13 @@ use un_schema::{Class, Name};
 /// A link with the ports of its ends.
 pub(crate) type Pipe = (LinkName, Port, Port);
 
-/// What a port is to a trace. A valve has category 0, and on a source sits a controller of tier 0.
+/// What a port is to a trace. A valve has category 0, on a source sits a controller of tier 0, and a wide one has this value of attribute 0.
 #[derive(Clone, Copy)]
 pub(crate) enum Role {
     Plain,
     Valve,
     Source,
+    Wide(i64),
 }
 
 /// A port with its role.
@@ -217,8 +218,12 @@ fn ties_of(alloc: Global, pipes: &[Pipe], at: Port) -> Result<Vec<Tie>, AllocErr
     Ok(ties)
 }
 
-fn no_attributes() -> Result<Attrs, AllocError> {
-    match Attrs::new(&[]) {
+fn attributes_of(role: Role) -> Result<Attrs, AllocError> {
+    let attrs = match role {
+        Role::Wide(width) => Attrs::new(&[(Some(0), width)]),
+        Role::Plain | Role::Valve | Role::Source => Attrs::new(&[]),
+    };
+    match attrs {
         Ok(attrs) => Ok(attrs),
         Err(_) => Err(AllocError),
     }
@@ -237,14 +242,14 @@ fn source(alloc: Global, port: Port) -> Result<Controller, Fail> {
 fn controller_of(alloc: Global, stand: Stand) -> Result<Option<Controller>, Fail> {
     match stand.role {
         Role::Source => Ok(Some(source(alloc, stand.port)?)),
-        Role::Plain | Role::Valve => Ok(None),
+        Role::Plain | Role::Valve | Role::Wide(_) => Ok(None),
     }
 }
 
 fn cats_of(role: Role) -> Cats {
     match role {
         Role::Valve => Cats(1),
-        Role::Plain | Role::Source => Cats(0),
+        Role::Plain | Role::Source | Role::Wide(_) => Cats(0),
     }
 }
 
@@ -254,7 +259,7 @@ fn spot(alloc: Global, pipes: &[Pipe], stand: Stand) -> Result<Spot, Fail> {
         kind: 0,
         class: Class::Device,
         cats: cats_of(stand.role),
-        attrs: no_attributes()?,
+        attrs: attributes_of(stand.role)?,
         ties: Ties::new(ties_of(alloc, pipes, stand.port)?),
         controller: controller_of(alloc, stand)?,
         container: 0,

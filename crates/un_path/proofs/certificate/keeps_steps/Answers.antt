@@ -6,8 +6,8 @@ use Rattle.un_defs.specs.declared.port.Node.{Node}
 use Rattle.un_path.specs.declared.hops.Hop.{Hop}
 use Rattle.un_path.specs.Checking.{KeepsHops}
 use Rattle.un_path.specs.Hops.{IsAt}
-use Rattle.un_path.proofs.Following.{node_at, keeps_from, keeps_hops_by}
-use Rattle.un_path.proofs.Places.{place_from}
+use Rattle.un_path.proofs.Following.{keeps_from, keeps_hops_by}
+use Rattle.un_path.proofs.Places.{place_from, node_at}
 use Rattle.un_path.proofs.certificate.keeps_steps.Goals as goal
 
 pub keeps_hops-requires : goal.keeps_hops-requires

@@ -10,7 +10,7 @@ use Rattle.un_path.specs.declared.search.Coming.{Coming}
 use Rattle.un_path.specs.Costs.{step_cost}
 use Rattle.un_path.specs.Hops.{AreHops}
 use Rattle.un_path.specs.Search.{IsPendingIn, arrival_of, HasArrival, first_arrival, PushesHops, IsUnderWay}
-use Rattle.un_path.proofs.Following.{node_at}
+use Rattle.un_path.proofs.Places.{node_at}
 use Rattle.un_path.proofs.Searching.{begun_after, few, settled_way, fewer_free}
 use Rattle.un_path.proofs.search.settle.Goals as goal
 

@@ -6,7 +6,7 @@ use Rattle.un_path.specs.declared.search.Arrival.{Arrival}
 use Rattle.un_path.specs.Hops.{IsAt}
 use Rattle.un_path.specs.Paths.{ports_of}
 use Rattle.un_path.specs.Search.{HasArrival, HasBest}
-use Rattle.un_path.proofs.Following.{node_at}
+use Rattle.un_path.proofs.Places.{node_at}
 use Rattle.un_path.proofs.shortest.trace_back.Goals as goal
 
 abbrev no_node : Node

@@ -16,4 +16,4 @@ invariant-loop-before l = record {
 }
 
 abbrev pub decreases-loop-before : goal.decreases-loop-before
-decreases-loop-before l = steps_to l.nodes l.arrivals l.place
+decreases-loop-before l = steps_to l.arrivals l.place

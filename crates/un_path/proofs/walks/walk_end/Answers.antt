@@ -9,7 +9,8 @@ use Rattle.un_defs.proofs.LinkCases.{some_same}
 use Rattle.un_path.specs.declared.hops.Hop.{Hop}
 use Rattle.un_path.specs.Checking.{IsCheapest, GoesOn}
 use Rattle.un_path.specs.Costs.{step_cost}
-use Rattle.un_path.proofs.Following.{node_at, goes_nowhere, goes_on, goes_never, goes_by_cheapest}
+use Rattle.un_path.proofs.Places.{node_at}
+use Rattle.un_path.proofs.Following.{goes_nowhere, goes_on, goes_never, goes_by_cheapest}
 use Rattle.un_path.proofs.walks.walk_end.Goals as goal
 
 abbrev no_port : Port
