@@ -61,8 +61,8 @@ pub(crate) fn star_at(alloc: Global, facts: &Facts, p: Point) -> Result<Arc<Star
 }
 
 impl Net {
-    // What is kept once these points have the stars of all features.
-    fn rebuilt(
+    // What is kept once these points have the stars of all features, some of them prepared.
+    fn rebuilt_with(
         &self,
         alloc: Global,
         points: &[Point],
@@ -85,6 +85,25 @@ impl Net {
         // For the proof alone.
         let _len = kept.len();
         Ok(Rebuilt { kept, errors })
+    }
+
+    // What is kept once these points have the stars of all features.
+    fn rebuilt(
+        &self,
+        alloc: Global,
+        points: &[Point],
+        hint: Option<&Prepared>,
+        since: &[Entry<Net>],
+    ) -> Result<Rebuilt, Refusal>
+        requires { IfSome hint (λ h. Since step IsPreparedAt h.now since.now self.now) }
+        ensures stars { IfOk result (λ r. AreRebuilt self.now points.now r.kept) }
+        ensures kept { IfOk result (λ r. IsKept r.kept) }
+        ensures errors { IfOk result (λ r. r.errors
+            ≡ sum_by (λ p. length (fresh_star self.now p).errors) points.now) }
+        ensures memory { IfErr result (λ refusal. refusal ≡ Memory) }
+    {
+        let usable = self.usable(alloc, hint, since)?;
+        self.rebuilt_with(alloc, points, usable.as_ref())
     }
 
     // The stored subnetworks once this is kept, where the two topologies have the same stars at all other points. Where none is stored, no
@@ -131,8 +150,7 @@ impl Net {
         self.check_numbers()?;
         let areas = self.dirty.meeting(alloc, extent)?;
         let points = self.points_under(alloc, &areas)?;
-        let usable = self.usable(alloc, hint, since)?;
-        let rebuilt = self.rebuilt(alloc, &points, usable.as_ref())?;
+        let rebuilt = self.rebuilt(alloc, &points, hint, since)?;
         let stored = self.marked(alloc, &rebuilt.kept, &points)?;
         Ok(Validated {
             net: Net {

@@ -2,7 +2,7 @@ use Rattle.std.proofs.Common.{◌≡◌, take, length}
 use Rattle.std.specs.List.{sum_by}
 use Rattle.un_core.specs.State.{fresh_star}
 use Rattle.un_core.specs.Validation.{AreRebuilt}
-use Rattle.un_core.proofs.net.Net.rebuilt.Given as goal
+use Rattle.un_core.proofs.net.Net.rebuilt_with.Given as goal
 
 -- the points so far have the stars of all features
 abbrev pub invariant-loop-point : goal.invariant-loop-point

@@ -7,7 +7,7 @@ use Rattle.un_defs.specs.declared.star.Star.{Star}
 use Rattle.un_core.specs.State.{fresh_star}
 use Rattle.un_core.specs.Validation.{AreRebuilt}
 use Rattle.un_core.proofs.Rebuilt.{rebuilt_more, errors_more, kept_is}
-use Rattle.un_core.proofs.net.Net.rebuilt.Goals as goal
+use Rattle.un_core.proofs.net.Net.rebuilt_with.Goals as goal
 
 pub loop-point-preserved : goal.loop-point-preserved
 loop-point-preserved c =
