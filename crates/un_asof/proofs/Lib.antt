@@ -1,0 +1,4 @@
+pub mod Checks
+pub mod Keeping
+pub mod Leading
+pub mod Standing
