@@ -1,7 +1,7 @@
 //! The state after the first `n` entries of a log, over any machine.
 //!
-//! A query may ask for an answer at an older version: at the state after the first `n` entries of the log, where `n` may
-//! be any number up to the log's length. A board keeps the last state alone, and a state for each version would take
+//! An answer at an older version needs the state after the first `n` entries of the log, where `n` may be any number up
+//! to the log's length. A board keeps the last state alone, and a state for each version would take
 //! too much memory. But a machine steps the same way each time, so the state after `n` entries can be computed again
 //! from any earlier one: by the commands of the entries between the two.
 //!
