@@ -1,0 +1,10 @@
+pub mod Alike
+pub mod Colouring
+pub mod Connected
+pub mod Drawn
+pub mod Edging
+pub mod Linking
+pub mod Piecing
+pub mod Placing
+pub mod Reaching
+pub mod Sorting

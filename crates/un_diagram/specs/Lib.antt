@@ -1,0 +1,6 @@
+pub mod Answer
+pub mod Colours
+pub mod Diagram
+pub mod Edges
+pub mod Laws
+pub mod Places
