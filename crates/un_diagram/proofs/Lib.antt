@@ -7,4 +7,5 @@ pub mod Linking
 pub mod Piecing
 pub mod Placing
 pub mod Reaching
+pub mod SmallCase
 pub mod Sorting

@@ -27,7 +27,8 @@ pub(crate) struct Colouring {
 fn is_blank(roles: &[Role], colours: &[Option<usize>], place: usize) -> bool
     requires role { place < length roles.now }
     requires colour { place < length colours.now }
-    ensures { MatchBool result (IsBlank roles.now colours.now place) (IsBlank roles.now colours.now place → ⊥) }
+    ensures { MatchBool result (IsBlank roles.now colours.now place)
+        (IsBlank roles.now colours.now place → ⊥) }
 {
     match roles[place] {
         Role::Collapsed => colours[place].is_none(),
@@ -57,7 +58,7 @@ fn colour_ends(
     Ok(())
 }
 
-/// Colours the piece of the node at a place, and answers the places of its nodes. The ground is there for the contract alone.
+/// Colours the piece of the node at a place, and answers the places of its nodes.
 fn colour_piece<G: Ground>(
     alloc: Global,
     over: &G,
@@ -99,7 +100,8 @@ fn feature_at(nodes: &[Node], place: usize) -> Option<u64>
 
 /// The features of the nodes at the places.
 fn features_at(alloc: Global, nodes: &[Node], places: &[usize]) -> Result<Vec<u64>, AllocError>
-    ensures { IfOk result (λ features. features.items ≡ filter_map (feature_at nodes.now) places.now) }
+    ensures { IfOk result (λ features. features.items
+        ≡ filter_map (feature_at nodes.now) places.now) }
 {
     places
         .iter()

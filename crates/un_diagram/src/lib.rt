@@ -25,8 +25,9 @@
 //!
 //! # Why that is enough
 //!
-//! Where no dirt is met, two conditions stand on the call: each link between two reached nodes stands at both of them, and no two reached nodes
-//! have one port. So a walk over collapsed nodes can be gone back, and collapsed nodes are in one piece or in two that nothing joins.
+//! Where no dirt is met, a condition stands on the call, as for loops: each link between two reached nodes stands at both of them, no two reached
+//! nodes have one port, and the links of one name join one pair of nodes. By the first, a walk over collapsed nodes can be gone back, so two pieces
+//! have no node in common. By the second, a port tells its node.
 //!
 //! Before each place is taken, no link leads from a coloured place to a collapsed one of another colour or of none. A worklist begins at a place
 //! without a colour. Were there a link from one of its places to one that an earlier piece has coloured, there would be one back, and the place

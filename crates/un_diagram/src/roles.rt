@@ -12,11 +12,14 @@ use un_conds::{Cond, holds};
 use un_defs::{Node, Spot};
 use un_walk::Seen;
 
+/// What becomes of a reached node.
 #[derive(Clone, Copy)]
 pub(crate) enum Role {
+    /// It is shown by its port.
     Kept,
+    /// It is shown as part of a piece.
     Collapsed,
-    /// A barrier.
+    /// It is a barrier, and not shown.
     Shut,
 }
 
