@@ -15,10 +15,15 @@ use un_json::read_request;
 use un_machine::{Applied, Entry, Machine};
 
 const JOINT: &[u8] = b"{\"do\":\"insert\",\"kind\":\"joint\",\"points\":[[0,0,0]]}";
+
 const PIPE: &[u8] = b"{\"do\":\"insert\",\"kind\":\"pipe\",\"points\":[[0,0,0],[10,0,0]]}";
+
 const NEXT_PIPE: &[u8] = b"{\"do\":\"insert\",\"kind\":\"pipe\",\"points\":[[10,0,0],[20,0,0]]}";
+
 const PIPE_BACK: &[u8] = b"{\"do\":\"insert\",\"kind\":\"pipe\",\"points\":[[0,0,0],[-1,0,0]]}";
+
 const VALIDATE_FAR: &[u8] = b"{\"do\":\"validate\",\"extent\":[15,0,15,0]}";
+
 const VALIDATE_ORIGIN: &[u8] = b"{\"do\":\"validate\",\"extent\":[0,0,0,0]}";
 
 /// How many pipes meet at the origin, and how often one preparation is applied.
@@ -155,7 +160,11 @@ fn extent(x: i64) -> Result<Rect, Fail> {
 
 // A validation that was prepared before another pipe came and its far end was validated. The next pipe meets the first one at (10,0,0), where
 // no junction stands: a star from before it would have no error.
-fn validate_stale<M: Preparing, R: Threads + Sync>(rt: &R, alloc: Global, opening: &M) -> Result<(), Fail> {
+fn validate_stale<M: Preparing, R: Threads + Sync>(
+    rt: &R,
+    alloc: Global,
+    opening: &M,
+) -> Result<(), Fail> {
     let (one, _) = step_by(alloc, opening, JOINT)?;
     let (two, _) = step_by(alloc, &one, PIPE)?;
     let prepared = two.prepare_at(rt, alloc, extent(5)?)?;
@@ -181,7 +190,9 @@ fn a_stale_star_is_built_anew(rt: HostRuntime) -> Result<(), Fail> {
 // A state with a pipe more, from the origin to a place of its own.
 fn with_pipe<M: Preparing>(alloc: Global, state: &M, i: u32) -> Result<M, Fail> {
     let (x, y) = (i, (MANY + 1).saturating_sub(i));
-    let text = format!(in alloc; "{{\"do\":\"insert\",\"kind\":\"pipe\",\"points\":[[0,0,0],[{x},{y},0]]}}")?;
+    let text = format!(in alloc;
+        "{{\"do\":\"insert\",\"kind\":\"pipe\",\"points\":[[0,0,0],[{x},{y},0]]}}"
+    )?;
     Ok(step_by(alloc, state, text.as_bytes())?.0)
 }
 
@@ -212,7 +223,11 @@ fn validate_many<M: Preparing>(
 }
 
 // How many states share the star that was prepared once.
-fn share_star<M: Preparing, R: Threads + Sync>(rt: &R, alloc: Global, opening: &M) -> Result<usize, Fail> {
+fn share_star<M: Preparing, R: Threads + Sync>(
+    rt: &R,
+    alloc: Global,
+    opening: &M,
+) -> Result<usize, Fail> {
     let state = with_many_pipes(alloc, opening)?;
     let (state, _) = step_by(alloc, &state, VALIDATE_ORIGIN)?;
     let (state, _) = step_by(alloc, &state, PIPE_BACK)?;
