@@ -14,6 +14,7 @@ mod sockets;
 use std::alloc::{AllocError, Global};
 use std::marker::Brand;
 use std::sync::Wait;
+use std::thread::Threads;
 use un_core::Net;
 use un_desk::desk::Desk;
 use un_io::{MemLink, MemSink, MemSource, Plan, Word};
@@ -25,7 +26,7 @@ use un_schema_json::read_schema;
 use un_serve::{LinkEnd, serve_link};
 
 // Serves these links one after another, each by the session of its place, and tells how the last of them ended.
-fn serve_each<R: Wait, J: BoardName<Net>>(
+fn serve_each<R: Threads + Wait + Sync, J: BoardName<Net>>(
     rt: &R,
     alloc: Global,
     desk: &Desk<Net, J>,
@@ -40,7 +41,7 @@ fn serve_each<R: Wait, J: BoardName<Net>>(
 }
 
 // Opens a desk of two sessions over the network, serves the links, and closes the desk.
-fn serve_at<R: Wait, J: BoardName<Net>>(
+fn serve_at<R: Threads + Wait + Sync, J: BoardName<Net>>(
     rt: &R,
     alloc: Global,
     new_log: NewLog<Entry<Net>>,
@@ -59,7 +60,11 @@ fn serve_at<R: Wait, J: BoardName<Net>>(
 }
 
 // Serves the links at a fresh desk under the schema with joints and pipes.
-fn serve<R: Wait>(rt: &R, alloc: Global, links: &mut [MemLink]) -> Option<LinkEnd> {
+fn serve<R: Threads + Wait + Sync>(
+    rt: &R,
+    alloc: Global,
+    links: &mut [MemLink],
+) -> Option<LinkEnd> {
     let Ok((schema, tiers)) = read_schema(alloc, b"{\"schema\":0}") else {
         return None;
     };
@@ -103,7 +108,7 @@ fn link_over(
 }
 
 // Whether one link with this input ends so, after exactly this output.
-fn gives<R: Wait>(
+fn gives<R: Threads + Wait + Sync>(
     rt: &R,
     alloc: Global,
     input: &[u8],
@@ -117,7 +122,7 @@ fn gives<R: Wait>(
 }
 
 // Whether it is so in one read, and also where the first read ends after any of the bytes.
-fn gives_however_cut<R: Wait>(
+fn gives_however_cut<R: Threads + Wait + Sync>(
     rt: &R,
     alloc: Global,
     input: &[u8],

@@ -4,6 +4,7 @@ use super::gives_however_cut;
 use std::alloc::{AllocError, Global};
 use std::sync::Wait;
 use std::test::Fail;
+use std::thread::Threads;
 use un_serve::LinkEnd;
 
 // Inputs, with the output and the end.
@@ -117,7 +118,10 @@ const LINKS: [(&[u8], &str, LinkEnd); 22] = [
 ];
 
 // The first of the inputs that has other responses, or another end.
-fn first_other<R: Wait>(rt: &R, alloc: Global) -> Result<Option<usize>, AllocError> {
+fn first_other<R: Threads + Wait + Sync>(
+    rt: &R,
+    alloc: Global,
+) -> Result<Option<usize>, AllocError> {
     for at in 0..LINKS.len() {
         let (input, output, end) = LINKS[at];
         if !gives_however_cut(rt, alloc, input, output.as_bytes(), end)? {

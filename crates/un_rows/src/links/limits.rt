@@ -4,6 +4,7 @@ use super::{Calls, WHOLE, gives};
 use std::alloc::{AllocError, Global};
 use std::sync::Wait;
 use std::test::Fail;
+use std::thread::Threads;
 use un_serve::LinkEnd;
 
 // The response to a head that is too long.
@@ -24,7 +25,7 @@ fn stretched(alloc: Global, first: &[u8], byte: u8, count: usize) -> Result<Vec<
 }
 
 // Whether 8,192 bytes without the end of a head are refused when the last of them is read, and no sooner.
-fn refuses_endless<R: Wait>(rt: &R, alloc: Global) -> Result<bool, AllocError> {
+fn refuses_endless<R: Threads + Wait + Sync>(rt: &R, alloc: Global) -> Result<bool, AllocError> {
     let input = stretched(alloc, b"GET /version HTTP/1.1\r\nA: ", b'a', 8_166)?;
     let less = &input[..input.len().saturating_sub(1)];
     let cut = LinkEnd::Cut { bytes: 8_191 };
@@ -55,7 +56,7 @@ fn refuses_endless<R: Wait>(rt: &R, alloc: Global) -> Result<bool, AllocError> {
 }
 
 // Whether a body of 1,048,576 bytes is read, where they are opening brackets.
-fn reads_long_body<R: Wait>(rt: &R, alloc: Global) -> Result<bool, AllocError> {
+fn reads_long_body<R: Threads + Wait + Sync>(rt: &R, alloc: Global) -> Result<bool, AllocError> {
     let head = b"POST /queries HTTP/1.1\r\nContent-Length: 1048576\r\n\r\n";
     let input = stretched(alloc, head, b'[', 1_048_576)?;
     gives(rt, alloc, &input, (WHOLE, WHOLE), NOT_JSON, LinkEnd::Closed)

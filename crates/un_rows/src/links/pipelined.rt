@@ -4,6 +4,7 @@ use super::{Calls, WHOLE, gives};
 use std::alloc::{AllocError, Global};
 use std::sync::Wait;
 use std::test::Fail;
+use std::thread::Threads;
 use un_serve::LinkEnd;
 
 // Two requests of 34 bytes, and a third one whose body is cut after 5 of its 9 bytes.
@@ -35,7 +36,10 @@ fn end_after(count: usize) -> LinkEnd {
 }
 
 // The least count of bytes after which the input ends and the link is answered otherwise.
-fn first_other_end<R: Wait>(rt: &R, alloc: Global) -> Result<Option<usize>, AllocError> {
+fn first_other_end<R: Threads + Wait + Sync>(
+    rt: &R,
+    alloc: Global,
+) -> Result<Option<usize>, AllocError> {
     for count in 0..=THREE.len() {
         let (output, end) = (responses_by(count), end_after(count));
         if !gives(rt, alloc, &THREE[..count], (WHOLE, WHOLE), output, end)? {
@@ -53,7 +57,7 @@ fn whole_requests_are_answered_before_the_input_ends(rt: HostRuntime) -> Result<
 
 // The least number of a read that fails and is answered otherwise than by the responses to the requests that were whole before it.
 // Each read gives so many bytes; the last one would have found the end of the input.
-fn first_other_read<R: Wait>(
+fn first_other_read<R: Threads + Wait + Sync>(
     rt: &R,
     alloc: Global,
     size: usize,
@@ -83,7 +87,10 @@ fn whole_requests_are_answered_before_a_read_fails(rt: HostRuntime) -> Result<()
 
 // The least number of a write that fails and is answered otherwise than by the bytes that were written before it. Each write takes
 // a byte.
-fn first_other_write<R: Wait>(rt: &R, alloc: Global) -> Result<Option<usize>, AllocError> {
+fn first_other_write<R: Threads + Wait + Sync>(
+    rt: &R,
+    alloc: Global,
+) -> Result<Option<usize>, AllocError> {
     let cuts = vec![in alloc; 1; TWO.len()]?;
     for failing in 0..TWO.len() {
         let writes = Calls {

@@ -4,6 +4,7 @@ use super::{Calls, WHOLE, link_over, serve};
 use std::alloc::{AllocError, Global};
 use std::sync::Wait;
 use std::test::Fail;
+use std::thread::Threads;
 use un_serve::LinkEnd;
 
 // What the two links send.
@@ -19,7 +20,11 @@ pub(super) const OUTPUTS: [&[u8]; 2] = [
 ];
 
 // Whether both links have their responses where the first read of each ends after so many bytes.
-fn are_served<R: Wait>(rt: &R, alloc: Global, cut: usize) -> Result<bool, AllocError> {
+fn are_served<R: Threads + Wait + Sync>(
+    rt: &R,
+    alloc: Global,
+    cut: usize,
+) -> Result<bool, AllocError> {
     let reads = Calls {
         cuts: &[cut],
         ..WHOLE
@@ -37,7 +42,10 @@ fn are_served<R: Wait>(rt: &R, alloc: Global, cut: usize) -> Result<bool, AllocE
 }
 
 // The first cut at which they have other responses.
-fn first_other_cut<R: Wait>(rt: &R, alloc: Global) -> Result<Option<usize>, AllocError> {
+fn first_other_cut<R: Threads + Wait + Sync>(
+    rt: &R,
+    alloc: Global,
+) -> Result<Option<usize>, AllocError> {
     for cut in 1..=INPUTS[1].len() {
         if !are_served(rt, alloc, cut)? {
             return Ok(Some(cut));
