@@ -20,6 +20,7 @@ HasNumbers (refusal.NoStart feature port) = ⊤
 HasNumbers (refusal.StartIsValve feature terminal) = ⊤
 HasNumbers (refusal.DirtyGround area feature port) = ⊤
 HasNumbers (refusal.NotIsolable feature terminal) = ⊤
+HasNumbers (refusal.NotYet at latest) = ⊤
 HasNumbers other = ⊥
 
 -- a reply that holds numbers and words alone
@@ -28,6 +29,7 @@ IsPlainReply (reply.Edited areas id word version) = ⊤
 IsPlainReply (reply.Ruled areas rules version) = ⊤
 IsPlainReply (reply.Validated cleared errors version) = ⊤
 IsPlainReply (reply.Version version) = ⊤
+IsPlainReply (reply.Check valid version) = ⊤
 IsPlainReply other = ⊥
 
 -- a reply of a command that holds more than numbers and words
@@ -37,7 +39,7 @@ IsCommandReply (reply.Updated row version) = ⊤
 IsCommandReply (reply.Refused refusal edit version) = ⊤
 IsCommandReply other = ⊥
 
--- a reply of a query, but for a version alone
+-- a reply of a query that does not walk, except for a version alone
 abbrev pub IsQueryReply : Reply → Type 0
 IsQueryReply (reply.Feature feature version) = ⊤
 IsQueryReply (reply.Dirty areas version) = ⊤
@@ -52,3 +54,9 @@ IsTraceReply (reply.Controllers controllers version) = ⊤
 IsTraceReply (reply.Loops segments version) = ⊤
 IsTraceReply (reply.Isolation borders features version) = ⊤
 IsTraceReply other = ⊥
+
+-- a path or a diagram
+abbrev pub IsShownReply : Reply → Type 0
+IsShownReply (reply.Path cost labels nodes version) = ⊤
+IsShownReply (reply.Diagram edges kept pieces version) = ⊤
+IsShownReply other = ⊥

@@ -1,4 +1,4 @@
--- The replies of commands, and of traces that meet dirt.
+-- The replies of commands, and of walks that meet dirt.
 use Rattle.std.specs.Prelude.{◌≢◌, ◌≤◌, length, None, ⊤}
 use Rattle.un_defs.specs.declared.walk.Dirt.{Dirt}
 use Rattle.un_defs.specs.declared.refusal.Refusal.TheVariants.{DirtyGround, Memory}
@@ -27,7 +27,7 @@ abbrev pub HasFewEdits : Command → Type 0
 HasFewEdits (Batch edits) = length edits ≤ 256
 HasFewEdits other = ⊤
 
--- the reply of a trace that meets dirt names the area and the port. The caller puts in the version.
+-- the reply of a walk that meets dirt names the area and the port. The caller puts in the version.
 abbrev pub on_dirty_ground : Dirt → Reply
 on_dirty_ground d = reply.Refused (DirtyGround d.area d.port.feature d.port.number) None 0
 

@@ -4,7 +4,7 @@
 //! the copy and its source share nothing, and either may be dropped before the other. It takes time and memory in
 //! proportion to what the reply holds.
 ghost use Rattle.std.specs.Prelude.{◌≡◌, IfOk};
-ghost use Rattle.un_ask.specs.Groups.{IsPlainReply, IsCommandReply, IsQueryReply, IsTraceReply};
+ghost use Rattle.un_ask.specs.Groups.{IsPlainReply, IsCommandReply, IsQueryReply, IsTraceReply, IsShownReply};
 
 use crate::reply::{FeatureReply, Reply, ResultReply};
 use crate::stored::StoredSubnet;
@@ -26,7 +26,8 @@ impl Reply {
             Reply::Edited { .. }
             | Reply::Ruled { .. }
             | Reply::Validated { .. }
-            | Reply::Version { .. } => Ok(copy_plain(self)),
+            | Reply::Version { .. }
+            | Reply::Check { .. } => Ok(copy_plain(self)),
             Reply::Batch { .. } | Reply::Updated { .. } | Reply::Refused { .. } => {
                 copy_command_reply(alloc, self)
             }
@@ -38,6 +39,7 @@ impl Reply {
             | Reply::Controllers { .. }
             | Reply::Loops { .. }
             | Reply::Isolation { .. } => copy_trace_reply(alloc, self),
+            Reply::Path { .. } | Reply::Diagram { .. } => copy_shown_reply(alloc, self),
         }
     }
 }
@@ -78,6 +80,10 @@ fn copy_plain(reply: &Reply) -> Reply
             version: *version,
         },
         Reply::Version { version } => Reply::Version { version: *version },
+        Reply::Check { valid, version } => Reply::Check {
+            valid: *valid,
+            version: *version,
+        },
         _ => unreachable!(),
     }
 }
@@ -184,6 +190,38 @@ fn copy_trace_reply(alloc: Global, reply: &Reply) -> Result<Reply, AllocError>
         } => Ok(Reply::Isolation {
             borders: borders.copy(alloc)?,
             features: copy_parts(alloc, features)?,
+            version: *version,
+        }),
+        _ => unreachable!(),
+    }
+}
+
+/// A path or a diagram.
+fn copy_shown_reply(alloc: Global, reply: &Reply) -> Result<Reply, AllocError>
+    requires { IsShownReply reply.now }
+    ensures { IfOk result (λ copy. copy ≡ reply.now) }
+{
+    match reply {
+        Reply::Path {
+            cost,
+            labels,
+            nodes,
+            version,
+        } => Ok(Reply::Path {
+            cost: *cost,
+            labels: labels.copy(alloc)?,
+            nodes: nodes.copy(alloc)?,
+            version: *version,
+        }),
+        Reply::Diagram {
+            edges,
+            kept,
+            pieces,
+            version,
+        } => Ok(Reply::Diagram {
+            edges: edges.copy(alloc)?,
+            kept: kept.copy(alloc)?,
+            pieces: pieces.copy(alloc)?,
             version: *version,
         }),
         _ => unreachable!(),

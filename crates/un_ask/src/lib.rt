@@ -7,7 +7,9 @@
 
 pub mod areas;
 mod copy;
+pub mod diagram;
 pub mod edits;
+pub mod path;
 pub mod query;
 pub mod reply;
 pub mod request;
@@ -19,15 +21,20 @@ pub mod typed;
 pub mod word;
 
 pub use areas::{Areas, PlacedErrors, Points};
+pub use diagram::NamedDiagram;
 pub use edits::Edits;
-pub use query::{Asked, Query};
+pub use path::{NamedCheck, NamedPath};
+pub use query::{Asked, PastQuery, Query};
 pub use reply::{FeatureReply, Reply, ResultReply};
 pub use request::{Command, Request};
-pub use results::{Controllers, Numbers, Part, Parts, Segment, Segments, Totals};
+pub use results::{
+    Controllers, Edge, Edges, Label, Labels, Numbers, Part, Parts, Piece, Pieces, Segment,
+    Segments, Totals,
+};
 pub use rule::NamedRule;
 pub use stored::{Status, StoredSubnet};
 pub use trace::{Include, NamedFunc, NamedFuncs, RawCondition, TraceAsk, TraceKind};
-pub use typed::{Func, Funcs, TypedAsk};
+pub use typed::{CheckAsk, DiagramAsk, Func, Funcs, PathAsk, TypedAsk, Weight};
 pub use un_defs::{Edit, Limit, NamedAttrs, Refusal};
 pub use un_schema::{Name, Place};
 pub use word::EditWord;

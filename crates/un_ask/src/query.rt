@@ -1,3 +1,5 @@
+use crate::diagram::NamedDiagram;
+use crate::path::{NamedCheck, NamedPath};
 use crate::trace::TraceAsk;
 use un_geom::Rect;
 use un_schema::Name;
@@ -19,4 +21,17 @@ pub enum Asked {
     Errors { extent: Rect },
     Subnet { tier: Name, subnet: Name },
     Trace(TraceAsk),
+    Path(NamedPath),
+    Check(NamedCheck),
+    Diagram(NamedDiagram),
+}
+
+/// A question about the state at a past version, which is refused where `seen` is over the version that is read.
+#[derive(Drop)]
+pub struct PastQuery {
+    /// The least version that may be read.
+    pub seen: u64,
+    /// The version at which the question is answered.
+    pub at: u64,
+    pub what: Asked,
 }

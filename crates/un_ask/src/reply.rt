@@ -3,7 +3,7 @@ ghost use Rattle.std.specs.Prelude.{◌≡◌};
 ghost use Rattle.un_ask.specs.Replies.{on_dirty_ground};
 
 use crate::areas::{Areas, PlacedErrors, Points};
-use crate::results::{Controllers, Parts, Segments, Totals};
+use crate::results::{Controllers, Edges, Labels, Parts, Pieces, Segments, Totals};
 use crate::stored::{Status, StoredSubnet};
 use crate::trace::TraceKind;
 use crate::word::EditWord;
@@ -87,6 +87,24 @@ pub enum Reply {
         features: Parts,
         version: u64,
     },
+    /// The best walk, with no cost where there is no walk. The labels are those that were asked for.
+    Path {
+        cost: Option<u128>,
+        labels: Labels,
+        nodes: Ports,
+        version: u64,
+    },
+    /// Whether a certificate is valid.
+    Check {
+        valid: bool,
+        version: u64,
+    },
+    Diagram {
+        edges: Edges,
+        kept: Ports,
+        pieces: Pieces,
+        version: u64,
+    },
     /// The request was refused. `edit` is the place of the refused edit in a batch, from 0.
     Refused {
         refusal: Refusal,
@@ -96,7 +114,7 @@ pub enum Reply {
 }
 
 impl Reply {
-    /// The reply of a trace that meets dirt, which names the area and the port. The caller puts in the version.
+    /// The reply of a walk that meets dirt, which names the area and the port. The caller puts in the version.
     pub fn on_dirty_ground(dirt: Dirt) -> Reply
         ensures { result ≡ on_dirty_ground dirt }
     {

@@ -1,5 +1,5 @@
 use crate::edits::Edits;
-use crate::query::Query;
+use crate::query::{PastQuery, Query};
 use crate::rule::NamedRule;
 use un_defs::Edit;
 use un_geom::Rect;
@@ -10,6 +10,8 @@ use un_schema::Name;
 pub enum Request {
     Command(Command),
     Query(Query),
+    /// A query at a past version, which a server answers and a script does not.
+    Past(PastQuery),
 }
 
 /// What may change the state.

@@ -1,5 +1,5 @@
-//! What traces tell.
-use un_defs::Controller;
+//! What traces, paths and diagrams tell.
+use un_defs::{Controller, Port};
 use un_schema::Items;
 
 /// A feature of a result with the numbers of its reached ports, rising.
@@ -30,3 +30,39 @@ pub type Segments = Items<Segment>;
 
 /// A list of values of functions, none for the least or the greatest of no values.
 pub type Totals = Items<Option<i128>>;
+
+/// A reached port, and the least that a walk to it costs.
+#[derive(Clone, Copy, Debug, PartialEq, Eq, Hash)]
+pub struct Label {
+    pub port: Port,
+    pub cost: u128,
+}
+
+/// A list of labels.
+pub type Labels = Items<Label>;
+
+/// Nodes that a diagram shows as one.
+#[derive(Clone, Copy, Debug, PartialEq, Eq, Hash)]
+pub struct Piece {
+    /// The least port of its nodes.
+    pub name: Port,
+    /// How many nodes it has.
+    pub nodes: usize,
+    /// How many features these nodes are of.
+    pub features: usize,
+}
+
+/// A list of pieces.
+pub type Pieces = Items<Piece>;
+
+/// What joins a kept port of a diagram with another, the lesser first, or a kept port with a piece.
+#[derive(Clone, Copy, Debug, PartialEq, Eq, PartialOrd, Ord, Hash)]
+pub struct Edge {
+    /// A kept port.
+    pub from: Port,
+    /// Another kept port, or the name of a piece.
+    pub to: Port,
+}
+
+/// A list of edges.
+pub type Edges = Items<Edge>;

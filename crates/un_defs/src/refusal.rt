@@ -120,6 +120,13 @@ pub enum Refusal {
     RuleExists {
         place: usize,
     },
+    /// The answer of a version is asked for that is not there yet.
+    NotYet {
+        at: u64,
+        latest: u64,
+    },
+    /// A script does not answer at past versions; a server does.
+    ServeOnly,
     /// There was no memory; nothing has changed.
     Memory,
 }

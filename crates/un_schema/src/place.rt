@@ -46,6 +46,13 @@ pub enum Place {
     Consistent,
     Include,
     Functions,
+    Weight,
+    Certificate,
+    Nodes,
+    Labels,
+    Keep,
+    At,
+    Query,
 }
 
 impl Place {
@@ -99,6 +106,13 @@ impl Place {
             Place::Consistent => "consistent",
             Place::Include => "include",
             Place::Functions => "functions",
+            Place::Weight => "weight",
+            Place::Certificate => "certificate",
+            Place::Nodes => "nodes",
+            Place::Labels => "labels",
+            Place::Keep => "keep",
+            Place::At => "at",
+            Place::Query => "query",
         }
     }
 }

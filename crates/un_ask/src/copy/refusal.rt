@@ -40,6 +40,10 @@ fn copy_numbers(refusal: &Refusal) -> Refusal
             feature: *feature,
             terminal: *terminal,
         },
+        Refusal::NotYet { at, latest } => Refusal::NotYet {
+            at: *at,
+            latest: *latest,
+        },
         _ => unreachable!(),
     }
 }
@@ -98,6 +102,7 @@ pub(super) fn copy_refusal(alloc: Global, refusal: &Refusal) -> Result<Refusal, 
         Refusal::BadCondition { place } => Ok(Refusal::BadCondition { place: *place }),
         Refusal::BadRuleTerminal { place } => Ok(Refusal::BadRuleTerminal { place: *place }),
         Refusal::RuleExists { place } => Ok(Refusal::RuleExists { place: *place }),
+        Refusal::ServeOnly => Ok(Refusal::ServeOnly),
         Refusal::Memory => Ok(Refusal::Memory),
         Refusal::NoSuchKind { .. } | Refusal::BadAttribute { .. } | Refusal::Conflict { .. } => {
             copy_named(alloc, refusal)
