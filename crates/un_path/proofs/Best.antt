@@ -1,8 +1,7 @@
 -- The chain back from a node is its best walk.
-use Rattle.std.proofs.Common.{◌≡◌, ℕ, zero, suc, ◌+◌, ◌≤◌, nat_cmp, Ordering, Less, Equal, Greater, Bool, true, List, [], ◌∷◌, length, reverse, inl, inr, refl, sym, ap, subst, ◌∙◌, arith, true≢false}
+use Rattle.std.proofs.Common.{◌≡◌, ℕ, zero, suc, ◌+◌, ◌≤◌, Ordering, Less, Equal, Greater, Bool, true, List, [], ◌∷◌, length, reverse, inl, inr, refl, sym, ap, subst, ◌∙◌, arith, true≢false}
 use Rattle.std.specs.Ordering.{ordering_then, is_le}
 use Rattle.std.specs.Cmp.Lexicographic.{slice_cmp}
-use Rattle.std.proofs.lemmas.Bool.{cases_lt}
 use Rattle.std.proofs.lemmas.Cmp.{tied_itself}
 use Rattle.std.proofs.lemmas.List.{length-reverse, reverse-reverse}
 use Rattle.un_defs.specs.declared.port.Node.{Node}
@@ -11,15 +10,8 @@ use Rattle.un_defs.proofs.OrderLaws.{node_total, node_ties}
 use Rattle.un_path.specs.Costs.{walk_cost}
 use Rattle.un_path.specs.Paths.{IsWalk, IsBestWalk, IsLeastCost}
 use Rattle.un_path.specs.Settled.{AreSettled, IsChain}
-use Rattle.un_path.proofs.Numbers.{less_by, equal_by}
+use Rattle.un_path.proofs.Ordered.{le_first}
 use Rattle.un_path.proofs.Back.{Back, back_cost, walk_from_back, back_from_walk}
-
--- a comparison by two numbers, then by more
-le_first : (a b : ℕ) (o : Ordering) → a ≤ b → (a ≡ b → is_le o ≡ true) → is_le (ordering_then (nat_cmp a b) o) ≡ true
-le_first a b o low tied = elim (cases_lt a b) [
-  | inl less ↦ ap (λ r. is_le (ordering_then r o)) (less_by a b less)
-  | inr high ↦ (let same : a ≡ b = omega arith in ap (λ r. is_le (ordering_then r o)) (ap (nat_cmp a) (sym same) ∙ equal_by a) ∙ tied same)
-]
 
 module _ (step : Node → Node → Bool) (cost : Node → Node → ℕ) (start : Node) (Has : Node → ℕ → ℕ → Node → Type 0) (settled : AreSettled step cost start Has) where
   -- nothing is known to be later than any walk

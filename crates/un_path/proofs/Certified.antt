@@ -1,26 +1,19 @@
 -- The labels and the walk that are found for a path are a valid certificate.
 use Rattle.std.proofs.Common.{◌≡◌, ℕ, ◌≤◌, Bool, true, List, [], ◌∷◌, ◌++◌, Option, Some, None, ◌⊎◌, inl, inr, refl, sym, ap, subst, ◌∙◌, arith}
 use Rattle.std.specs.Prelude.{Contains, MatchOption}
-use Rattle.std.specs.declared.cmp.Ordering.{Ordering}
-use Rattle.std.specs.declared.cmp.Ordering.TheVariants.{Less, Equal, Greater}
-use Rattle.std.specs.Ordering.{ordering_then, is_le}
 use Rattle.std.proofs.lemmas.Map.Keys.{le_from_is_le}
 use Rattle.un_defs.specs.declared.port.Port.{Port}
 use Rattle.un_defs.specs.declared.port.Node.{Node}
 use Rattle.un_defs.specs.Reach.{IsReach}
 use Rattle.un_defs.proofs.Members.{contains_from_among}
-use Rattle.un_path.specs.declared.ask.Label.{Label}
-use Rattle.un_path.specs.declared.ask.CheckAsk.{CheckAsk}
+use Rattle.un_ask.specs.declared.results.Label.{Label}
+use Rattle.un_ask.specs.declared.typed.CheckAsk.{CheckAsk}
 use Rattle.un_path.specs.declared.answer.PathFound.{PathFound}
 use Rattle.un_path.specs.Costs.{walk_cost}
 use Rattle.un_path.specs.Paths.{IsWalk, IsBestWalk, IsLeastCost, IsToldOf, AreLeastCosts, IsPathFound}
 use Rattle.un_path.specs.Valid.{label_at, KeepsSteps, IsLabelledWalk, IsValid}
+use Rattle.un_path.proofs.Ordered.{first_le}
 use Rattle.un_path.proofs.Labelled.{label_from, label_of, walk_from, walk_to, one_further, further_cost, from_reached}
-
-first_le : (o p : Ordering) → is_le (ordering_then o p) ≡ true → is_le o ≡ true
-first_le Less p e = refl
-first_le Equal p e = refl
-first_le Greater p e = e
 
 module _ (step : Node → Node → Bool) (cost : Node → Node → ℕ) (from : Node) (reached : List Node) (reach : IsReach step (from ∷ []) reached)
     (labels : List Label) (are : AreLeastCosts step cost from reached labels) where

@@ -13,8 +13,8 @@ use Rattle.un_defs.specs.Reach.{Follow, last_node, leads}
 use Rattle.un_defs.proofs.LinkCases.{some_same}
 use Rattle.un_defs.proofs.Unique.{port_same, port_itself}
 use Rattle.un_walk.specs.declared.seen.Seen.{Seen}
-use Rattle.un_path.specs.declared.ask.Label.{Label}
-use Rattle.un_path.specs.declared.ask.Weight.{Weight}
+use Rattle.un_ask.specs.declared.results.Label.{Label}
+use Rattle.un_ask.specs.declared.typed.Weight.{Weight}
 use Rattle.un_path.specs.declared.hops.Hop.{Hop}
 use Rattle.un_path.specs.Checking.{HaveCosts, KeepsHops, is_to, IsCheapest, Goes, GoesOn}
 use Rattle.un_path.specs.Costs.{step_cost, cost_after}

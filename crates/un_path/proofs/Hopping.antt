@@ -24,7 +24,7 @@ use Rattle.un_walk.specs.declared.seen.Seen.{Seen}
 use Rattle.un_walk.specs.Seen.{spot_of, is_barrier_by}
 use Rattle.un_walk.proofs.DirtMet.{least_among, least_low, none_low}
 use Rattle.un_walk.proofs.Entered.{each_entry}
-use Rattle.un_path.specs.declared.ask.Weight.{Weight}
+use Rattle.un_ask.specs.declared.typed.Weight.{Weight}
 use Rattle.un_path.specs.declared.hops.Hop.{Hop}
 use Rattle.un_path.specs.Costs.{is_segment, segment_cost, link_cost, link_costs, step_cost}
 use Rattle.un_path.specs.Hops.{cost_by, IsAt, IsHopBy, AreHopsBy, AreReached, AreHops}

@@ -11,8 +11,8 @@ use Rattle.un_defs.proofs.Unique.{port_same, port_itself}
 use Rattle.un_defs.proofs.Members.{contains_from_among, among_from_contains, among-map}
 use Rattle.un_defs.proofs.Rising.{Among}
 use Rattle.un_defs.proofs.Walking.{walk_on, walk_from_start}
-use Rattle.un_path.specs.declared.ask.Label.{Label}
-use Rattle.un_path.specs.declared.ask.CheckAsk.{CheckAsk}
+use Rattle.un_ask.specs.declared.results.Label.{Label}
+use Rattle.un_ask.specs.declared.typed.CheckAsk.{CheckAsk}
 use Rattle.un_path.specs.Costs.{cost_after, walk_cost}
 use Rattle.un_path.specs.Paths.{IsWalk, ports_of, label_ports}
 use Rattle.un_path.specs.Valid.{label_at, KeepsSteps, IsValid, ShowsLeast}

@@ -12,8 +12,8 @@ use Rattle.un_defs.specs.Linked.{HaveOwnPorts}
 use Rattle.un_defs.proofs.LinkCases.{some_same}
 use Rattle.un_defs.proofs.Members.{contains_from_among, among_from_contains, among-map}
 use Rattle.un_defs.proofs.Rising.{Among}
-use Rattle.un_path.specs.declared.ask.Label.{Label}
-use Rattle.un_path.specs.declared.ask.CheckAsk.{CheckAsk}
+use Rattle.un_ask.specs.declared.results.Label.{Label}
+use Rattle.un_ask.specs.declared.typed.CheckAsk.{CheckAsk}
 use Rattle.un_path.specs.declared.walks.WalkEnd.{WalkEnd}
 use Rattle.un_path.specs.Checking.{HaveCosts, Goes, IsEndOf, EndsAt, HasRightWalk}
 use Rattle.un_path.specs.Costs.{walk_cost}
@@ -22,10 +22,11 @@ use Rattle.un_path.specs.Valid.{label_at, KeepsSteps, IsLabelledWalk, IsValid}
 use Rattle.un_path.proofs.Places.{contains_at, one_place, node_at}
 use Rattle.un_path.proofs.Labelled.{has_label, label_from}
 
-heads : (p q : Port) (ps qs : List Port) → p ∷ ps ≡ q ∷ qs → p ≡ q
+-- what lists of ports that are one begin with, and what comes after that
+pub heads : (p q : Port) (ps qs : List Port) → p ∷ ps ≡ q ∷ qs → p ≡ q
 heads p q ps qs e = cc
 
-tails : (p q : Port) (ps qs : List Port) → p ∷ ps ≡ q ∷ qs → ps ≡ qs
+pub tails : (p q : Port) (ps qs : List Port) → p ∷ ps ≡ q ∷ qs → ps ≡ qs
 tails p q ps qs e = cc
 
 module _ (step : Node → Node → Bool) (cost : Node → Node → ℕ) (nodes : List Node) (ask : CheckAsk) where

@@ -13,7 +13,7 @@ use Rattle.un_defs.specs.Orders.{node_cmp}
 use Rattle.un_defs.specs.Reach.{IsReach}
 use Rattle.un_defs.proofs.LinkCases.{some_same}
 use Rattle.un_defs.proofs.OrderLaws.{node_total}
-use Rattle.un_path.specs.declared.ask.Label.{Label}
+use Rattle.un_ask.specs.declared.results.Label.{Label}
 use Rattle.un_path.specs.declared.answer.PathFound.{PathFound}
 use Rattle.un_path.specs.declared.search.Arrival.{Arrival}
 use Rattle.un_path.specs.Hops.{IsAt}

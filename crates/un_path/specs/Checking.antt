@@ -5,8 +5,8 @@ use Rattle.un_defs.specs.declared.port.Port.{Port}
 use Rattle.un_defs.specs.declared.port.Node.{Node}
 use Rattle.un_defs.specs.Orders.{same_port}
 use Rattle.un_defs.specs.Reach.{Follow, last_node}
-use Rattle.un_path.specs.declared.ask.Label.{Label}
-use Rattle.un_path.specs.declared.ask.CheckAsk.{CheckAsk}
+use Rattle.un_ask.specs.declared.results.Label.{Label}
+use Rattle.un_ask.specs.declared.typed.CheckAsk.{CheckAsk}
 use Rattle.un_path.specs.declared.hops.Hop.{Hop}
 use Rattle.un_path.specs.declared.walks.WalkEnd.{WalkEnd}
 use Rattle.un_path.specs.Costs.{cost_after}

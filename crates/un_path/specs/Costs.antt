@@ -12,8 +12,8 @@ use Rattle.un_defs.specs.declared.walk.Barriers.{Barriers}
 use Rattle.un_defs.specs.Orders.{least}
 use Rattle.un_defs.specs.Ground.{Ground, entry, ties}
 use Rattle.un_defs.specs.Reach.{goes_by}
-use Rattle.un_path.specs.declared.ask.Weight.{Weight}
-use Rattle.un_path.specs.declared.ask.Weight.TheVariants.{Steps, Attribute, Unknown}
+use Rattle.un_ask.specs.declared.typed.Weight.{Weight}
+use Rattle.un_ask.specs.declared.typed.Weight.TheVariants.{Steps, Attribute, Unknown}
 
 abbrev pub is_segment : LinkName → Bool
 is_segment (Seg line index) = true

@@ -12,7 +12,7 @@ use Rattle.un_defs.specs.Linked.{HaveOwnPorts}
 use Rattle.un_defs.specs.Reach.{leads}
 use Rattle.un_walk.specs.declared.seen.Seen.{Seen}
 use Rattle.un_walk.specs.Seen.{nodes_of, HaveEntries}
-use Rattle.un_path.specs.declared.ask.Weight.{Weight}
+use Rattle.un_ask.specs.declared.typed.Weight.{Weight}
 use Rattle.un_path.specs.declared.hops.Hop.{Hop}
 use Rattle.un_path.specs.Costs.{is_segment, segment_cost, step_cost}
 

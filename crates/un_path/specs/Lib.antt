@@ -7,3 +7,5 @@ pub mod Paths
 pub mod Search
 pub mod Settled
 pub mod Valid
+pub mod Verdict
+pub mod WalkList

@@ -7,7 +7,7 @@ use Rattle.un_defs.specs.declared.port.Port.{Port}
 use Rattle.un_defs.specs.declared.port.Node.{Node}
 use Rattle.un_defs.specs.Orders.{node_cmp}
 use Rattle.un_defs.specs.Reach.{Follow, last_node}
-use Rattle.un_path.specs.declared.ask.Label.{Label}
+use Rattle.un_ask.specs.declared.results.Label.{Label}
 use Rattle.un_path.specs.declared.answer.PathFound.{PathFound}
 use Rattle.un_path.specs.Costs.{walk_cost}
 

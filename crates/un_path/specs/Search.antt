@@ -9,7 +9,7 @@ use Rattle.un_path.specs.declared.hops.Hop.{Hop}
 use Rattle.un_path.specs.declared.search.Arrival.{Arrival}
 use Rattle.un_path.specs.declared.search.Coming.{Coming}
 use Rattle.un_defs.specs.declared.port.Port.{Port}
-use Rattle.un_path.specs.declared.ask.Label.{Label}
+use Rattle.un_ask.specs.declared.results.Label.{Label}
 use Rattle.un_path.specs.declared.answer.PathFound.{PathFound}
 use Rattle.un_path.specs.Hops.{IsAt}
 use Rattle.un_path.specs.Paths.{ports_of, label_ports}

@@ -4,8 +4,8 @@ use Rattle.std.specs.Option.{option_map}
 use Rattle.un_defs.specs.declared.port.Port.{Port}
 use Rattle.un_defs.specs.declared.port.Node.{Node}
 use Rattle.un_defs.specs.Orders.{same_port}
-use Rattle.un_path.specs.declared.ask.Label.{Label}
-use Rattle.un_path.specs.declared.ask.CheckAsk.{CheckAsk}
+use Rattle.un_ask.specs.declared.results.Label.{Label}
+use Rattle.un_ask.specs.declared.typed.CheckAsk.{CheckAsk}
 use Rattle.un_path.specs.Costs.{walk_cost}
 use Rattle.un_path.specs.Paths.{IsWalk, ports_of, label_ports}
 

@@ -7,18 +7,17 @@ ghost use Rattle.un_defs.specs.Orders.{node_cmp};
 ghost use Rattle.un_defs.specs.declared.port.Node.{Node};
 ghost use Rattle.un_defs.specs.declared.walk.Mode.TheVariants.{Any};
 ghost use Rattle.un_defs.specs.Reach.{leads};
-ghost use Rattle.un_path.specs.Answer.{IsReachFrom, HaveOwnPortsOnCleanGround, IsValidOver, verdict, IsCheckAnswer};
+ghost use Rattle.un_path.specs.Answer.{IsReachFrom, HaveOwnPortsOnCleanGround, IsValidOver, IsCheckAnswer};
 ghost use Rattle.un_path.specs.Checking.{HaveCosts, KeepsHops, EndsAt, HasRightWalk};
 ghost use Rattle.un_path.specs.Costs.{step_cost};
 ghost use Rattle.un_path.specs.Hops.{IsAt, AreReached};
 ghost use Rattle.un_path.specs.Paths.{ports_of, label_ports};
 ghost use Rattle.un_path.specs.Valid.{KeepsSteps};
 
-use crate::answer::CheckAnswer;
-use crate::ask::{CheckAsk, Label, Weight};
 use crate::hops::{Hop, hops_from, place_of};
 use crate::walks::{WalkEnd, walk_end};
 use std::alloc::{AllocError, Global};
+use un_ask::{CheckAsk, Label, Reply, Weight};
 use un_defs::{Barriers, Ground, Mode, Node};
 use un_steps::Steps;
 use un_walk::{Seen, reach_seen};
@@ -182,29 +181,20 @@ fn is_valid<G: Ground>(
     has_right_walk(alloc, over, ask, seen, nodes, &costs, start)
 }
 
-fn verdict(valid: bool) -> CheckAnswer
-    ensures { result ≡ verdict valid }
-{
-    if valid {
-        CheckAnswer::Valid
-    } else {
-        CheckAnswer::Invalid
-    }
-}
-
 /// The verdict on a certificate over the ground: whether it is valid.
 ///
-/// `steps` counts the stars that are looked up. It answers an error only for want of memory; the count may then have risen.
+/// The version in the reply is 0: the caller puts in its own. `steps` counts the stars that are looked up. It answers an error only for
+/// want of memory; the count may then have risen.
 pub fn check<G: Ground, L>(
     alloc: Global,
     over: &G,
     ask: &CheckAsk,
     steps: &mut Steps<L>,
-) -> Result<CheckAnswer, AllocError>
+) -> Result<Reply, AllocError>
     requires untiered { ask.now.barriers.tier ≡ None }
     requires own_ports { HaveOwnPortsOnCleanGround (G.stars_and_areas over.now)
         ask.now.barriers ask.now.from }
-    // The dirt where the walks met some, and else whether the certificate is valid.
+    // A refusal where the walks met dirt, and else whether the certificate is valid.
     ensures answer { IfOk result (IsCheckAnswer (G.stars_and_areas over.now) ask.now) }
 
     // No more stars are looked up than nodes are reached.
@@ -215,9 +205,9 @@ pub fn check<G: Ground, L>(
 {
     let reached = reach_seen(alloc, over, &[ask.from], Mode::Any, &ask.barriers, steps)?;
     if let Some(dirt) = reached.dirt {
-        return Ok(CheckAnswer::DirtyGround(dirt));
+        return Ok(Reply::on_dirty_ground(dirt));
     }
     let nodes = reached.nodes(alloc)?;
     let valid = is_valid(alloc, over, ask, reached.seen.as_slice(), nodes.as_slice())?;
-    Ok(verdict(valid))
+    Ok(Reply::Check { valid, version: 0 })
 }

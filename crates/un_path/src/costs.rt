@@ -4,7 +4,7 @@ ghost use Rattle.std.specs.Prelude.{◌≡◌};
 ghost use Rattle.un_path.specs.Costs.{is_segment, cost_of_value, segment_cost};
 ghost use Rattle.un_path.specs.Hops.{cost_by};
 
-use crate::ask::Weight;
+use un_ask::Weight;
 use un_attrs::Attrs;
 use un_defs::{LinkName, Spot, Tie};
 

@@ -6,9 +6,9 @@ ghost use Rattle.un_defs.specs.declared.port.Node.{Node};
 ghost use Rattle.un_defs.specs.Orders.{node_cmp};
 ghost use Rattle.un_path.specs.Hops.{IsAt, AreHopsBy, AreReached, AreHops};
 
-use crate::ask::Weight;
 use crate::costs::link_cost;
 use std::alloc::{AllocError, Global};
+use un_ask::Weight;
 use un_defs::{Barriers, Ground, Node, Spot};
 use un_walk::Seen;
 

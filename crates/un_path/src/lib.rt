@@ -4,8 +4,8 @@
 //!
 //! Walks go over a ground from one node, by any link, and end in a barrier. A segment of a line costs 1, or where a query has a weight the value of
 //! that attribute at the node that the walk leaves by it, 0 where that is absent or below 0. Other links cost nothing. Where several links join two
-//! nodes, the step costs what the cheapest does. Where a dirty area covers a reached node, the answer is the least such area and the least port
-//! that it covers.
+//! nodes, the step costs what the cheapest does. Where a dirty area covers a reached node, the reply is a refusal with the least such area and the
+//! least port that it covers.
 //!
 //! Else the best walk to the other node is wanted: the one that costs least, of these one with the fewest nodes, and of these the one whose nodes,
 //! read from the last to the first, come first. Beside it stand, where they are asked for, the labels: for each reached node the least that a walk
@@ -14,6 +14,12 @@
 //! Labels and a walk are a certificate, which [`certificate::check`] judges without looking for a walk of its own. It is valid if the labels have
 //! exactly the reached nodes, the first node's is 0, no step leads from a node to one whose label is more than the first label and the step's cost,
 //! and the walk costs its last node's label; or it shows no walk, and the last node is not reached.
+//!
+//! Both replies are functions of the ground, the query and the reached nodes. Of the walks with at most as many nodes as are reached there are
+//! finitely many, so they can be listed, and the reply to a query for a path has the first of those that end in the other node. Whether a
+//! certificate is valid is a test: all pairs of reached nodes are looked at, and all walks with as many nodes as ports are shown. The code lists
+//! no walks. [`laws`] has it as theorems that the first of the list comes before all walks, also the longer ones, that what the labels have are
+//! the least costs, and that the test holds exactly where the certificate is valid.
 //!
 //! # How it is found
 //!
@@ -49,6 +55,10 @@
 //! which such a step leads, the search keeps the least as the place before, since the places before are compared where cost and steps are the
 //! same. So read from the last node, the walk that is found is the same as the other up to some node, and then has the lesser one, or they are one.
 //!
+//! Of the list: where a walk comes to a node twice, what lies between can be cut out. The walk that is left has fewer nodes and costs no more, so it
+//! comes before the other, and with no node twice it has at most as many nodes as are reached. So before each walk that is not in the list there is
+//! one that is. No two walks tie, since two that have the same nodes are one. So the walk that the search finds is the first of the list.
+//!
 //! A link costs less than 2^63 and a settled place takes fewer steps than there are nodes, so all sums fit in 128 bits.
 //!
 //! # What it costs
@@ -57,8 +67,7 @@
 //! most: in the order of (V + E) log V.
 #![tactic(auto)]
 
-pub mod answer;
-pub mod ask;
+mod answer;
 pub mod certificate;
 mod costs;
 mod hops;
@@ -67,7 +76,6 @@ mod search;
 pub mod shortest;
 mod walks;
 
-pub use answer::{CheckAnswer, PathAnswer, PathFound};
-pub use ask::{CheckAsk, Label, Labels, PathAsk, Weight};
 pub use certificate::check;
 pub use shortest::path;
+pub use un_ask::{CheckAsk, PathAsk, Weight};

@@ -12,11 +12,11 @@ ghost use Rattle.un_path.specs.declared.hops.Hop.{Hop};
 ghost use Rattle.un_path.specs.declared.search.Coming.{Coming};
 ghost use Rattle.un_path.specs.Search.{turned_cmp, IsPendingIn, arrival_of, HasArrival, IsSettledAt, IsFree, free_count, first_arrival, PushesHops, TakesFirst, IsUnderWay, IsNext, IsDone};
 
-use crate::ask::Weight;
 use crate::hops::{Hop, hops_from};
 use std::alloc::{AllocError, Global};
 use std::cmp::Reverse;
 use std::collections::BinaryHeap;
+use un_ask::Weight;
 use un_defs::{Barriers, Ground, Node};
 use un_walk::Seen;
 

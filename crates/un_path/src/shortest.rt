@@ -2,21 +2,17 @@
 
 ghost use Rattle.std.specs.Prelude.{◌≡◌, ◌≤◌, ◌+◌, ◌<◌, ℕ, List, [], length, Contains, None, IfOk, OnOk};
 ghost use Rattle.un_defs.specs.declared.port.Node.{Node};
-ghost use Rattle.un_defs.specs.declared.walk.Mode.TheVariants.{Any};
-ghost use Rattle.un_defs.specs.Reach.{leads};
-ghost use Rattle.un_path.specs.Answer.{IsReachFrom, HaveOwnPortsOnCleanGround, IsPathAnswer};
-ghost use Rattle.un_path.specs.Costs.{step_cost};
+ghost use Rattle.un_path.specs.Answer.{IsReachFrom, HaveOwnPortsOnCleanGround, IsFoundOver, path_of, IsPathAnswer};
 ghost use Rattle.un_path.specs.Hops.{IsAt, AreReached};
-ghost use Rattle.un_path.specs.Paths.{IsPathFound};
 ghost use Rattle.un_path.specs.Search.{IsSettledAt, HasArrival, CanTrace, IsPlaceBefore, AreTraced, AreAllSettled, AreLabelsOf, IsFoundAt};
 ghost use Rattle.std.specs.List.Sorted.{IsStrictlySortedBy};
 ghost use Rattle.un_defs.specs.Orders.{node_cmp};
 
-use crate::answer::{PathAnswer, PathFound};
-use crate::ask::{Label, Labels, PathAsk};
+use crate::answer::PathFound;
 use crate::hops::place_of;
 use crate::search::{Arrival, best_arrivals};
 use std::alloc::{AllocError, Global};
+use un_ask::{Label, Labels, PathAsk, Reply};
 use un_defs::port::Ports;
 use un_defs::{Ground, Mode, Node, Port};
 use un_steps::Steps;
@@ -124,9 +120,7 @@ fn path_among<G: Ground>(
 ) -> Result<PathFound, AllocError>
     requires reached { AreReached (G.stars_and_areas over.now) ask.now.barriers seen.now nodes.now }
     requires reach { IsReachFrom (G.stars_and_areas over.now) ask.now.barriers ask.now.from nodes.now }
-    ensures { IfOk result (IsPathFound (leads (G.stars_and_areas over.now) ask.now.barriers Any)
-        (step_cost (G.stars_and_areas over.now) ask.now.barriers ask.now.weight)
-        ask.now.from ask.now.to ask.now.certificate nodes.now) }
+    ensures { IfOk result (IsFoundOver (G.stars_and_areas over.now) ask.now nodes.now) }
 {
     let start = place_of(nodes, ask.from).unwrap();
     let arrivals = best_arrivals(alloc, over, &ask.barriers, ask.weight, seen, nodes, start)?;
@@ -138,19 +132,32 @@ fn path_among<G: Ground>(
     found_to(alloc, nodes, &arrivals, ask.to, Labels::new(labels))
 }
 
+/// The reply that has what is found.
+fn path_of(found: PathFound) -> Reply
+    ensures { result ≡ path_of found }
+{
+    Reply::Path {
+        cost: found.cost,
+        labels: found.labels,
+        nodes: found.nodes,
+        version: 0,
+    }
+}
+
 /// The best walk from one node to another over the ground, with the labels of the reached nodes if they are asked for.
 ///
-/// `steps` counts the stars that are looked up. It answers an error only for want of memory; the count may then have risen.
+/// The version in the reply is 0: the caller puts in its own. `steps` counts the stars that are looked up. It answers an error only for
+/// want of memory; the count may then have risen.
 pub fn path<G: Ground, L>(
     alloc: Global,
     over: &G,
     ask: &PathAsk,
     steps: &mut Steps<L>,
-) -> Result<PathAnswer, AllocError>
+) -> Result<Reply, AllocError>
     requires untiered { ask.now.barriers.tier ≡ None }
     requires own_ports { HaveOwnPortsOnCleanGround (G.stars_and_areas over.now)
         ask.now.barriers ask.now.from }
-    // The dirt where the walks met some, and else the best walk, or that there is none.
+    // A refusal where the walks met dirt, and else the best walk, or that there is none.
     ensures answer { IfOk result (IsPathAnswer (G.stars_and_areas over.now) ask.now) }
 
     // No more stars are looked up than nodes are reached.
@@ -161,9 +168,9 @@ pub fn path<G: Ground, L>(
 {
     let reached = reach_seen(alloc, over, &[ask.from], Mode::Any, &ask.barriers, steps)?;
     if let Some(dirt) = reached.dirt {
-        return Ok(PathAnswer::DirtyGround(dirt));
+        return Ok(Reply::on_dirty_ground(dirt));
     }
     let nodes = reached.nodes(alloc)?;
     let found = path_among(alloc, over, ask, reached.seen.as_slice(), nodes.as_slice())?;
-    Ok(PathAnswer::Found(found))
+    Ok(path_of(found))
 }

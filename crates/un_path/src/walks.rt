@@ -8,9 +8,9 @@ ghost use Rattle.un_path.specs.Checking.{is_to, IsCheapest, IsEndOf};
 ghost use Rattle.un_path.specs.Costs.{step_cost};
 ghost use Rattle.un_path.specs.Hops.{IsAt, AreReached};
 
-use crate::ask::Weight;
 use crate::hops::{Hop, hops_from};
 use std::alloc::{AllocError, Global};
+use un_ask::Weight;
 use un_defs::{Barriers, Ground, Node, Port};
 use un_walk::Seen;
 

@@ -9,11 +9,10 @@ ghost use Rattle.un_walk_tests.specs.Pipes.{node_at};
 use crate::pipes::{Laid, Role, Stand, joint, laid_out, node, port, segment};
 use std::alloc::{AllocError, Global};
 use std::test::Fail;
+use un_ask::{Label, Labels, Reply};
 use un_defs::port::Ports;
 use un_defs::{Barriers, Port};
-use un_path::{
-    CheckAnswer, CheckAsk, Label, Labels, PathAnswer, PathAsk, PathFound, Weight, check, path,
-};
+use un_path::{CheckAsk, PathAsk, Weight, check, path};
 use un_steps::Steps;
 
 fn stand(feature: u64, number: u8, role: Role) -> Stand {
@@ -57,12 +56,20 @@ fn stopped_at(stops: Vec<Port>) -> Barriers
     }
 }
 
+/// What the reply to a query for a path has.
+#[derive(Drop)]
+struct Found {
+    cost: Option<u128>,
+    labels: Labels,
+    nodes: Ports,
+}
+
 fn found_between(
     alloc: Global,
     weight: Weight,
     stops: Vec<Port>,
     certificate: bool,
-) -> Result<PathFound, Fail> {
+) -> Result<Found, Fail> {
     let over = network(alloc)?;
     let ask = PathAsk {
         from: node(port(1, 1)),
@@ -72,13 +79,22 @@ fn found_between(
         certificate,
     };
     let found = match path(alloc, &over, &ask, &mut Steps::<u8>::new())? {
-        PathAnswer::Found(found) => Some(found),
-        PathAnswer::DirtyGround(_) => None,
+        Reply::Path {
+            cost,
+            labels,
+            nodes,
+            version: 0,
+        } => Some(Found {
+            cost,
+            labels,
+            nodes,
+        }),
+        _ => None,
     };
     Ok(found.ok_or("there is no dirt")?)
 }
 
-fn verdict_on(alloc: Global, nodes: Vec<Port>, labels: Vec<Label>) -> Result<CheckAnswer, Fail> {
+fn verdict_on(alloc: Global, nodes: Vec<Port>, labels: Vec<Label>) -> Result<bool, Fail> {
     let over = network(alloc)?;
     let ask = CheckAsk {
         from: node(port(1, 1)),
@@ -88,7 +104,11 @@ fn verdict_on(alloc: Global, nodes: Vec<Port>, labels: Vec<Label>) -> Result<Che
         nodes: Ports::new(nodes),
         labels: Labels::new(labels),
     };
-    Ok(check(alloc, &over, &ask, &mut Steps::<u8>::new())?)
+    let judged = match check(alloc, &over, &ask, &mut Steps::<u8>::new())? {
+        Reply::Check { valid, version: 0 } => Some(valid),
+        _ => None,
+    };
+    Ok(judged.ok_or("there is no dirt")?)
 }
 
 fn label(feature: u64, number: u8, cost: u128) -> Label {
@@ -151,9 +171,9 @@ fn certificates_are_judged(rt: HostRuntime) -> Result<(), Fail> {
     let alloc = rt.alloc();
     let narrow = vec![in alloc; port(1, 1), port(4, 0), port(4, 1), port(4, 2), port(2, 1)]?;
     let judged = verdict_on(alloc, narrow, labels_with(alloc, 6)?)?;
-    assert_eq!(rt; judged, CheckAnswer::Valid);
+    assert!(rt; judged);
     let wide = vec![in alloc; port(1, 1), port(3, 0), port(3, 1), port(2, 1)]?;
     let judged = verdict_on(alloc, wide, labels_with(alloc, 10)?)?;
-    assert_eq!(rt; judged, CheckAnswer::Invalid);
+    assert!(rt; !judged);
     Ok(())
 }

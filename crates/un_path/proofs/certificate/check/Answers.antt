@@ -1,20 +1,17 @@
-use Rattle.std.proofs.Common.{◌≡◌, Bool, true, false, List, Option, None, inl, sym, ap, subst, ◌∙◌, refl}
-use Rattle.std.specs.Bool.{MatchBool}
+use Rattle.std.proofs.Common.{◌≡◌, List, Option, None, inl, sym, ap, subst, ◌∙◌}
 use Rattle.un_defs.specs.declared.port.Node.{Node}
 use Rattle.un_defs.specs.declared.walk.Dirt.{Dirt}
-use Rattle.un_defs.specs.Ground.{Ground}
-use Rattle.un_defs.specs.Reach.{dirt}
+use Rattle.un_defs.specs.declared.walk.Mode.TheVariants.{Any}
+use Rattle.un_defs.specs.Reach.{leads, dirt}
 use Rattle.un_walk.specs.declared.seen.Seen.{Seen}
 use Rattle.un_walk.specs.Seen.{nodes_of, HaveEntries}
-use Rattle.un_path.specs.declared.ask.CheckAsk.{CheckAsk}
-use Rattle.un_path.specs.declared.answer.CheckAnswer.TheVariants.{DirtyGround}
-use Rattle.un_path.specs.Answer.{IsReachFrom, IsValidOver, IsVerdict, IsVerdictGivenDirt, verdict}
+use Rattle.un_ask.specs.declared.typed.CheckAsk.{CheckAsk}
+use Rattle.un_ask.specs.declared.reply.Reply.TheVariants.{Check}
+use Rattle.un_path.specs.Answer.{IsReachFrom, check_given_dirt}
+use Rattle.un_path.specs.Costs.{step_cost}
+use Rattle.un_path.proofs.Judged.{judged}
 use Rattle.un_path.proofs.Reaching.{reached_from, are_reached, few_looked_up}
 use Rattle.un_path.proofs.certificate.check.Goals as goal
-
-judged : (G : Ground) (ask : CheckAsk) (nodes : List Node) (b : Bool) → MatchBool b (IsValidOver G ask nodes) (IsValidOver G ask nodes → ⊥) → IsVerdict G ask nodes (verdict b)
-judged G ask nodes true h = h
-judged G ask nodes false h = h
 
 pub returns-in-Some-clause-ticks : goal.returns-in-Some-clause-ticks
 returns-in-Some-clause-ticks g c = λ reached reach.
@@ -57,7 +54,7 @@ returns-in-Some-clause-answer g c =
     record {
       reached = nodes;
       reach = c.in_ok-reached.ensures.nodes;
-      is = subst (λ (o : Option Dirt). IsVerdictGivenDirt o G ask nodes (DirtyGround c.in-Some.dirt)) (sym c.in-Some.is ∙ c.in_ok-reached.ensures.dirt) refl;
+      is = c.on_dirty_ground.ensures ∙ sym (ap (λ (o : Option Dirt). check_given_dirt o G ask nodes) (sym c.in_ok-reached.ensures.dirt ∙ c.in-Some.is));
     }
 
 pub returns-clause-answer : goal.returns-clause-answer
@@ -67,9 +64,10 @@ returns-clause-answer g c =
     let nodes : List Node = c.as_slice-2.result.now in
     let are : nodes ≡ nodes_of c.in_ok-reached.reached.seen.items = c.as_slice-2.ensures ∙ c.in_ok-nodes.ensures in
     let none : dirt G nodes ≡ None = ap (dirt G) are ∙ sym c.in_ok-reached.ensures.dirt ∙ c.in_default.is in
+    let reach : IsReachFrom G ask.barriers ask.from nodes = subst (IsReachFrom G ask.barriers ask.from) (sym are) c.in_ok-reached.ensures.nodes in
     record {
       reached = nodes;
-      reach = subst (IsReachFrom G ask.barriers ask.from) (sym are) c.in_ok-reached.ensures.nodes;
-      is = subst (λ (o : Option Dirt). IsVerdictGivenDirt o G ask nodes c.verdict.result) (sym none)
-          (subst (IsVerdict G ask nodes) (sym c.verdict.ensures) (judged G ask nodes c.in_ok-valid.valid c.in_ok-valid.ensures));
+      reach = reach;
+      is = ap (λ valid. Check valid 0) (judged (leads G ask.barriers Any) (step_cost G ask.barriers ask.weight) nodes ask reach c.in_ok-valid.valid c.in_ok-valid.ensures)
+          ∙ sym (ap (λ (o : Option Dirt). check_given_dirt o G ask nodes) none);
     }

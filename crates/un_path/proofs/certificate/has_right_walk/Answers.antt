@@ -7,7 +7,7 @@ use Rattle.un_defs.specs.declared.walk.Mode.TheVariants.{Any}
 use Rattle.un_defs.specs.Reach.{leads}
 use Rattle.un_defs.specs.Orders.{same_port}
 use Rattle.un_defs.proofs.Unique.{port_same}
-use Rattle.un_path.specs.declared.ask.CheckAsk.{CheckAsk}
+use Rattle.un_ask.specs.declared.typed.CheckAsk.{CheckAsk}
 use Rattle.un_path.specs.Checking.{HasRightWalk, IsEndOf}
 use Rattle.un_path.specs.Costs.{step_cost}
 use Rattle.un_path.specs.Hops.{IsAt}

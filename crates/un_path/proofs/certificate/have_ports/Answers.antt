@@ -4,7 +4,7 @@ use Rattle.un_defs.specs.declared.port.Port.{Port}
 use Rattle.un_defs.specs.declared.port.Node.{Node}
 use Rattle.un_defs.specs.Orders.{same_port}
 use Rattle.un_defs.proofs.Unique.{port_itself}
-use Rattle.un_path.specs.declared.ask.Label.{Label}
+use Rattle.un_ask.specs.declared.results.Label.{Label}
 use Rattle.un_path.proofs.certificate.have_ports.Goals as goal
 
 abbrev no_port : Port

@@ -6,8 +6,8 @@ use Rattle.un_defs.specs.declared.port.Node.{Node}
 use Rattle.un_defs.specs.declared.walk.Mode.TheVariants.{Any}
 use Rattle.un_defs.specs.Reach.{leads}
 use Rattle.un_defs.proofs.LinkCases.{some_same}
-use Rattle.un_path.specs.declared.ask.Label.{Label}
-use Rattle.un_path.specs.declared.ask.CheckAsk.{CheckAsk}
+use Rattle.un_ask.specs.declared.results.Label.{Label}
+use Rattle.un_ask.specs.declared.typed.CheckAsk.{CheckAsk}
 use Rattle.un_path.specs.Answer.{IsValidOver}
 use Rattle.un_path.specs.Checking.{HaveCosts}
 use Rattle.un_path.specs.Costs.{step_cost}

@@ -4,7 +4,7 @@ use Rattle.std.proofs.lemmas.List.{length_push, take_more}
 use Rattle.std.proofs.lemmas.Option.{slice_get-get_or}
 use Rattle.un_defs.specs.declared.port.Node.{Node}
 use Rattle.un_defs.proofs.LinkCases.{some_same}
-use Rattle.un_path.specs.declared.ask.Label.{Label}
+use Rattle.un_ask.specs.declared.results.Label.{Label}
 use Rattle.un_path.specs.declared.search.Arrival.{Arrival}
 use Rattle.un_path.specs.Hops.{IsAt}
 use Rattle.un_path.specs.Paths.{ports_of}

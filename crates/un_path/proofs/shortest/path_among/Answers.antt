@@ -4,8 +4,8 @@ use Rattle.std.proofs.lemmas.Option.{slice_get_within}
 use Rattle.un_defs.specs.declared.port.Node.{Node}
 use Rattle.un_defs.specs.declared.walk.Mode.TheVariants.{Any}
 use Rattle.un_defs.specs.Reach.{leads}
-use Rattle.un_path.specs.declared.ask.Label.{Label}
-use Rattle.un_path.specs.declared.ask.PathAsk.{PathAsk}
+use Rattle.un_ask.specs.declared.results.Label.{Label}
+use Rattle.un_ask.specs.declared.typed.PathAsk.{PathAsk}
 use Rattle.un_path.specs.declared.search.Arrival.{Arrival}
 use Rattle.un_path.specs.Costs.{step_cost}
 use Rattle.un_path.specs.Search.{AreAllSettled, CanTrace, AreLabelsOf, IsFoundAt}
