@@ -9,9 +9,9 @@ use Rattle.un_defs.specs.Orders.{port_cmp, same_port}
 use Rattle.un_defs.proofs.LinkCases.{both_true, true_both}
 use Rattle.un_defs.proofs.OrderLaws.{port_total, port_ties}
 use Rattle.un_defs.proofs.Unique.{port_same, port_itself}
-use Rattle.un_diagram.specs.contracts.answer.EdgeOrd.TheImpl as by_edge
-use Rattle.un_diagram.specs.contracts.answer.EdgePartialEq.TheImpl as equal_edges
-use Rattle.un_diagram.specs.declared.answer.Edge.{Edge}
+use Rattle.un_ask.specs.contracts.results.EdgeOrd.TheImpl as by_edge
+use Rattle.un_ask.specs.contracts.results.EdgePartialEq.TheImpl as equal_edges
+use Rattle.un_ask.specs.declared.results.Edge.{Edge}
 use Rattle.un_diagram.specs.Diagram.{edge_cmp}
 
 at_end : (k : Ordering) → k ≡ ordering_then k Equal

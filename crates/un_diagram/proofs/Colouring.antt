@@ -12,7 +12,7 @@ use Rattle.un_defs.specs.Reach.{leads, is_open, Walk}
 use Rattle.un_defs.proofs.Members.{among_from_contains, contains_from_among}
 use Rattle.un_defs.proofs.LinkCases.{both_true, true_both, some_same}
 use Rattle.un_defs.proofs.Walking.{walk_from_start, walk_on}
-use Rattle.un_diagram.specs.declared.ask.DiagramAsk.{DiagramAsk}
+use Rattle.un_ask.specs.declared.typed.DiagramAsk.{DiagramAsk}
 use Rattle.un_diagram.specs.declared.roles.Role.{Role}
 use Rattle.un_diagram.specs.declared.roles.Role.TheVariants.{Collapsed}
 use Rattle.un_diagram.specs.Diagram.{is_collapsed, passes}

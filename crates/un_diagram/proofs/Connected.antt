@@ -22,12 +22,11 @@ use Rattle.un_defs.proofs.Unique.{node_same, node_itself}
 use Rattle.un_defs.proofs.Walking.{reached_have, walk_from_start, walk_on}
 use Rattle.un_walk.specs.Spread.{reached_in}
 use Rattle.un_walk.proofs.Spreading.{reached_is_reach}
-use Rattle.un_diagram.specs.declared.ask.DiagramAsk.{DiagramAsk}
-use Rattle.un_diagram.specs.declared.answer.Piece.{Piece}
-use Rattle.un_diagram.specs.declared.answer.Edge.{Edge}
-use Rattle.un_diagram.specs.declared.answer.Diagram.{Diagram}
+use Rattle.un_ask.specs.declared.typed.DiagramAsk.{DiagramAsk}
+use Rattle.un_ask.specs.declared.results.Piece.{Piece}
+use Rattle.un_ask.specs.declared.results.Edge.{Edge}
 use Rattle.un_diagram.specs.declared.roles.Role.{Role}
-use Rattle.un_diagram.specs.Diagram.{is_chosen, is_kept, is_collapsed, passes, features_of, IsKept, IsPieceNamed}
+use Rattle.un_diagram.specs.Diagram.{Diagram, is_chosen, is_kept, is_collapsed, passes, features_of, IsKept, IsPieceNamed}
 use Rattle.un_diagram.specs.Places.{IsNetwork, AreRoles, role_of}
 use Rattle.un_diagram.specs.Laws.{IsDiagramOf, HasNode, IsInNoPiece, IsInOnePiece, goes_open, IsShown, AreNeighbours, IsLine}
 use Rattle.un_diagram.proofs.Reaching.{is_network}

@@ -17,9 +17,9 @@ use Rattle.un_defs.proofs.Members.{among_from_contains, contains_from_among}
 use Rattle.un_defs.proofs.OrderLaws.{node_total, port_total}
 use Rattle.un_defs.proofs.LinkCases.{some_same, both_true}
 use Rattle.un_defs.proofs.Walking.{reached_have, walk_from_start, walk_on}
-use Rattle.un_diagram.specs.declared.ask.DiagramAsk.{DiagramAsk}
-use Rattle.un_diagram.specs.declared.answer.Piece.{Piece}
-use Rattle.un_diagram.specs.declared.answer.Edge.{Edge}
+use Rattle.un_ask.specs.declared.typed.DiagramAsk.{DiagramAsk}
+use Rattle.un_ask.specs.declared.results.Piece.{Piece}
+use Rattle.un_ask.specs.declared.results.Edge.{Edge}
 use Rattle.un_diagram.specs.declared.roles.Role.{Role}
 use Rattle.un_diagram.specs.declared.roles.Role.TheVariants.{Kept, Collapsed, Shut}
 use Rattle.un_diagram.specs.Diagram.{is_collapsed, passes, features_of, IsKept, IsPieceNamed, IsPiece, IsEdge}
@@ -66,11 +66,11 @@ listed_in (m ∷ nodes) (Kept ∷ roles) (suc i) n at role = inr (listed_in node
 listed_in (m ∷ nodes) (Collapsed ∷ roles) (suc i) n at role = listed_in nodes roles i n at role
 listed_in (m ∷ nodes) (Shut ∷ roles) (suc i) n at role = listed_in nodes roles i n at role
 
-all_by_among : {A : Type 0} (P : A → Type 0) (xs : List A) → ((x : A) → Among xs x → P x) → AllByRecursion P xs
+pub all_by_among : {A : Type 0} (P : A → Type 0) (xs : List A) → ((x : A) → Among xs x → P x) → AllByRecursion P xs
 all_by_among P [] h = tt
 all_by_among P (x ∷ xs) h = (h x (inl refl), all_by_among P xs (λ y g. h y (inr g)))
 
-among_all : {A : Type 0} (P : A → Type 0) (xs : List A) → AllByRecursion P xs → (x : A) → Among xs x → P x
+pub among_all : {A : Type 0} (P : A → Type 0) (xs : List A) → AllByRecursion P xs → (x : A) → Among xs x → P x
 among_all P [] h x g = absurd g
 among_all P (y ∷ xs) h x g = elim g [ inl e ↦ subst P e h.0 | inr i ↦ among_all P xs h.1 x i ]
 

@@ -12,8 +12,8 @@ use Rattle.un_defs.specs.Ground.{Ground}
 use Rattle.un_defs.specs.Reach.{leads}
 use Rattle.un_defs.proofs.LinkCases.{some_same}
 use Rattle.un_defs.proofs.Members.{among_from_contains}
-use Rattle.un_diagram.specs.declared.ask.DiagramAsk.{DiagramAsk}
-use Rattle.un_diagram.specs.declared.answer.Edge.{Edge}
+use Rattle.un_ask.specs.declared.typed.DiagramAsk.{DiagramAsk}
+use Rattle.un_ask.specs.declared.results.Edge.{Edge}
 use Rattle.un_diagram.specs.declared.roles.Role.{Role}
 use Rattle.un_diagram.specs.declared.roles.Role.TheVariants.{Kept, Collapsed, Shut}
 use Rattle.un_diagram.specs.Diagram.{is_kept}

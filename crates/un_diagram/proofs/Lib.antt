@@ -4,8 +4,10 @@ pub mod Connected
 pub mod Drawn
 pub mod Edging
 pub mod Linking
+pub mod Listing
 pub mod Piecing
 pub mod Placing
 pub mod Reaching
+pub mod SameDiagram
 pub mod SmallCase
 pub mod Sorting

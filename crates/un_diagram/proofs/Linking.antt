@@ -21,7 +21,7 @@ use Rattle.un_defs.proofs.Unique.{node_same, node_itself}
 use Rattle.un_walk.specs.declared.seen.Seen.{Seen}
 use Rattle.un_walk.specs.Seen.{spot_of, is_barrier_by, node_of}
 use Rattle.un_walk.proofs.Entered.{each_entry}
-use Rattle.un_diagram.specs.declared.ask.DiagramAsk.{DiagramAsk}
+use Rattle.un_ask.specs.declared.typed.DiagramAsk.{DiagramAsk}
 use Rattle.un_diagram.specs.declared.roles.Role.{Role}
 use Rattle.un_diagram.specs.declared.roles.Role.TheVariants.{Kept, Collapsed, Shut}
 use Rattle.un_diagram.specs.Diagram.{meets, is_chosen, is_kept, is_collapsed}

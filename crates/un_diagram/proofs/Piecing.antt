@@ -20,8 +20,8 @@ use Rattle.un_defs.proofs.Members.{among_from_contains, contains_from_among, amo
 use Rattle.un_defs.proofs.OrderLaws.{node_total, node_ties, port_total, port_ties}
 use Rattle.un_defs.proofs.LinkCases.{some_same, both_true}
 use Rattle.un_defs.proofs.Walking.{reached_have}
-use Rattle.un_diagram.specs.declared.ask.DiagramAsk.{DiagramAsk}
-use Rattle.un_diagram.specs.declared.answer.Piece.{Piece}
+use Rattle.un_ask.specs.declared.typed.DiagramAsk.{DiagramAsk}
+use Rattle.un_ask.specs.declared.results.Piece.{Piece}
 use Rattle.un_diagram.specs.declared.roles.Role.{Role}
 use Rattle.un_diagram.specs.Diagram.{is_collapsed, passes, features_of, IsPieceNamed, IsPiece}
 use Rattle.un_diagram.specs.Places.{IsAt, IsNetwork, AreRoles}

@@ -1,5 +1,5 @@
 -- What holds of the nodes that walks from the starts reach.
-use Rattle.std.proofs.Common.{◌≡◌, ℕ, ◌+◌, ◌≤◌, List, length, None, ap, arith}
+use Rattle.std.proofs.Common.{◌≡◌, ℕ, ◌+◌, ◌≤◌, List, length, None, ap, arith, OnOk, Result, Ok, Err}
 use Rattle.std.proofs.lemmas.List.{length-map}
 use Rattle.un_defs.specs.declared.port.Node.{Node}
 use Rattle.un_defs.specs.declared.walk.Mode.TheVariants.{Any}
@@ -13,7 +13,7 @@ use Rattle.un_defs.proofs.Rising.{sorted_unique}
 use Rattle.un_defs.proofs.Walking.{walk_on}
 use Rattle.un_walk.specs.declared.seen.Seen.{Seen}
 use Rattle.un_walk.specs.Seen.{node_of, nodes_of, HaveEntries}
-use Rattle.un_diagram.specs.declared.ask.DiagramAsk.{DiagramAsk}
+use Rattle.un_ask.specs.declared.typed.DiagramAsk.{DiagramAsk}
 use Rattle.un_diagram.specs.Answer.{IsReachOf, AreLinkedOnCleanGround}
 use Rattle.un_diagram.specs.Places.{IsNetwork, AreReached}
 
@@ -45,3 +45,7 @@ module _ (G : Ground) (ask : DiagramAsk) where
   pub few_looked_up : (seen : List Seen) (reached : List Node) (old new : ℕ) → IsReachOf G ask (nodes_of seen) → IsReachOf G ask reached → new ≤ old + length seen → new ≤ old + length reached
   few_looked_up seen reached old new found reach few =
       omega (arith, ap length (reach_unique reached (nodes_of seen) reach found), length-map seen node_of, few)
+
+pub on_ok_any : {T E : Type 0} (r : Result T E) {P : Type 0} → P → OnOk r P
+on_ok_any (Ok x) h = h
+on_ok_any (Err e) h = tt

@@ -2,6 +2,7 @@
 use Rattle.std.proofs.Common.{◌≡◌, ℕ, pos, true, false, List, [], ◌∷◌, map, None, refl}
 use Rattle.un_conds.specs.Conditions.{Has}
 use Rattle.un_schema.specs.declared.kind.Class.TheVariants.{Junction}
+use Rattle.un_defs.specs.declared.port.Port.{Port}
 use Rattle.un_defs.specs.declared.port.Node.{Node}
 use Rattle.un_defs.specs.declared.link.LinkName.TheVariants.{Assoc}
 use Rattle.un_defs.specs.declared.link.Tie.{Tie}
@@ -9,11 +10,17 @@ use Rattle.un_defs.specs.declared.star.Spot.{Spot}
 use Rattle.un_defs.specs.declared.walk.Mode.TheVariants.{Any}
 use Rattle.un_defs.specs.Ground.{Ground}
 use Rattle.un_defs.specs.Reach.{leads}
-use Rattle.un_diagram.specs.declared.ask.DiagramAsk.{DiagramAsk}
+use Rattle.un_ask.specs.declared.reply.Reply.TheVariants.{Diagram}
+use Rattle.un_ask.specs.declared.typed.DiagramAsk.{DiagramAsk}
+use Rattle.un_diagram.specs.Answer.{diagram_reply}
 use Rattle.un_diagram.specs.Diagram.{is_kept, is_collapsed, passes, features_of}
+use Rattle.un_diagram.specs.DiagramLists.{piece_nodes, least_nodes}
+
+abbrev port : ℕ → Port
+port f = record { feature = f; number = 1 }
 
 abbrev node : ℕ → Node
-node f = record { port = record { feature = f; number = 1 }; at = record { x = pos 0; y = pos 0; z = pos 0 } }
+node f = record { port = port f; at = record { x = pos 0; y = pos 0; z = pos 0 } }
 
 -- the link of this number leads to the node of this feature
 abbrev tie : ℕ → ℕ → Tie
@@ -21,7 +28,7 @@ tie id f = record { name = Assoc id; to = node f; out = true; back = true }
 
 abbrev spot : ℕ → ℕ → List Tie → Spot
 spot f cats ties = record {
-  port = record { feature = f; number = 1 };
+  port = port f;
   kind = 0;
   class = Junction;
   cats = record { 0 = cats };
@@ -68,3 +75,16 @@ two_edges = refl
 
 two_features : features_of (node 2 ∷ node 3 ∷ []) ≡ 2 ∷ 3 ∷ []
 two_features = refl
+
+-- from each of its nodes the same piece is found, and one of them is the least
+the_piece_of_the_third : piece_nodes ground ask nodes (node 3) ≡ node 2 ∷ node 3 ∷ []
+the_piece_of_the_third = refl
+
+one_is_least : least_nodes ground ask nodes ≡ node 2 ∷ []
+one_is_least = refl
+
+the_reply : diagram_reply ground ask nodes ≡ Diagram
+    (record { from = port 1; to = port 2 } ∷ record { from = port 4; to = port 2 } ∷ [])
+    (port 1 ∷ port 4 ∷ [])
+    (record { name = port 2; nodes = 2; features = 2 } ∷ []) 0
+the_reply = refl

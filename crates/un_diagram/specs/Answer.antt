@@ -6,11 +6,12 @@ use Rattle.un_defs.specs.declared.walk.Dirt.{Dirt}
 use Rattle.un_defs.specs.Ground.{Ground}
 use Rattle.un_defs.specs.Reach.{IsReach, leads, dirt}
 use Rattle.un_defs.specs.Linked.{AreLinked}
-use Rattle.un_diagram.specs.declared.ask.DiagramAsk.{DiagramAsk}
-use Rattle.un_diagram.specs.declared.answer.Diagram.{Diagram}
-use Rattle.un_diagram.specs.declared.answer.DiagramAnswer.{DiagramAnswer}
-use Rattle.un_diagram.specs.declared.answer.DiagramAnswer.TheVariants.{Drawn, DirtyGround}
-use Rattle.un_diagram.specs.Diagram.{IsDiagram}
+use Rattle.un_ask.specs.declared.reply.Reply.{Reply}
+use Rattle.un_ask.specs.declared.reply.Reply.TheVariants.{Diagram as DiagramReply}
+use Rattle.un_ask.specs.Replies.{on_dirty_ground}
+use Rattle.un_ask.specs.declared.typed.DiagramAsk.{DiagramAsk}
+use Rattle.un_diagram.specs.Diagram.{Diagram}
+use Rattle.un_diagram.specs.DiagramLists.{diagram_of}
 
 -- the nodes in which a walk from a start ends
 abbrev pub IsReachOf : Ground → DiagramAsk → List Node → Type 0
@@ -20,13 +21,21 @@ IsReachOf G ask = IsReach (leads G ask.barriers Any) ask.starts
 abbrev pub AreLinkedOnCleanGround : Ground → DiagramAsk → Type 0
 AreLinkedOnCleanGround G ask = (reached : List Node) → IsReachOf G ask reached → dirt G reached ≡ None → AreLinked G reached
 
--- what is answered, given the dirt that was met
-abbrev pub IsAnswerGivenDirt : Option Dirt → Ground → DiagramAsk → List Node → DiagramAnswer → Type 0
-IsAnswerGivenDirt (Some d) G ask reached answer = answer ≡ DirtyGround d
-IsAnswerGivenDirt None G ask reached answer = (drawn : Diagram) × (answer ≡ Drawn drawn) × IsDiagram G ask reached drawn
+-- the reply that shows a diagram
+abbrev pub drawn : Diagram → Reply
+drawn d = DiagramReply d.edges d.kept d.pieces 0
 
--- the answer is that to the nodes in which a walk ends
-pub record IsAnswer (G : Ground) (ask : DiagramAsk) (answer : DiagramAnswer) : Type 0 where
+-- the reply, given the dirt that was met: its refusal, or the diagram. The caller puts in the version.
+abbrev pub diagram_given_dirt : Option Dirt → Ground → DiagramAsk → List Node → Reply
+diagram_given_dirt (Some d) G ask reached = on_dirty_ground d
+diagram_given_dirt None G ask reached = drawn (diagram_of G ask reached)
+
+-- the reply to a query that reached these nodes
+abbrev pub diagram_reply : Ground → DiagramAsk → List Node → Reply
+diagram_reply G ask reached = diagram_given_dirt (dirt G reached) G ask reached
+
+-- the reply is that to the nodes in which a walk ends
+pub record IsAnswer (G : Ground) (ask : DiagramAsk) (reply : Reply) : Type 0 where
   pub reached : List Node
   pub reach : IsReachOf G ask reached
-  pub is : IsAnswerGivenDirt (dirt G reached) G ask reached answer
+  pub is : reply ≡ diagram_reply G ask reached

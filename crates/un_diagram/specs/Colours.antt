@@ -9,9 +9,9 @@ use Rattle.un_defs.specs.declared.walk.Mode.TheVariants.{Any}
 use Rattle.un_defs.specs.Orders.{port_cmp}
 use Rattle.un_defs.specs.Ground.{Ground}
 use Rattle.un_defs.specs.Reach.{Walk, leads}
-use Rattle.un_diagram.specs.declared.ask.DiagramAsk.{DiagramAsk}
-use Rattle.un_diagram.specs.declared.answer.Piece.{Piece}
-use Rattle.un_diagram.specs.declared.answer.Edge.{Edge}
+use Rattle.un_ask.specs.declared.typed.DiagramAsk.{DiagramAsk}
+use Rattle.un_ask.specs.declared.results.Piece.{Piece}
+use Rattle.un_ask.specs.declared.results.Edge.{Edge}
 use Rattle.un_diagram.specs.declared.roles.Role.{Role}
 use Rattle.un_diagram.specs.declared.roles.Role.TheVariants.{Collapsed}
 use Rattle.un_diagram.specs.Diagram.{passes, is_kept, is_collapsed, IsPiece}

@@ -14,10 +14,9 @@ use Rattle.un_defs.specs.declared.walk.Mode.TheVariants.{Any}
 use Rattle.un_defs.specs.Orders.{rising, port_cmp, same_node}
 use Rattle.un_defs.specs.Ground.{Ground, entry}
 use Rattle.un_defs.specs.Reach.{IsReach, leads, is_open}
-use Rattle.un_diagram.specs.declared.ask.DiagramAsk.{DiagramAsk}
-use Rattle.un_diagram.specs.declared.answer.Piece.{Piece}
-use Rattle.un_diagram.specs.declared.answer.Edge.{Edge}
-use Rattle.un_diagram.specs.declared.answer.Diagram.{Diagram}
+use Rattle.un_ask.specs.declared.typed.DiagramAsk.{DiagramAsk}
+use Rattle.un_ask.specs.declared.results.Piece.{Piece}
+use Rattle.un_ask.specs.declared.results.Edge.{Edge}
 
 abbrev pub meets : Condition ℕ → Spot → Bool
 meets c s = holds c s.attrs s.cats.0
@@ -44,6 +43,12 @@ features_of nodes = rising nat_cmp (map (λ n. n.port.feature) nodes)
 -- edges compare by their first port, then by the second
 abbrev pub edge_cmp : Edge → Edge → Ordering
 edge_cmp a b = ordering_then (port_cmp a.from b.from) (port_cmp a.to b.to)
+
+-- what a diagram shows: kept ports, pieces, and edges
+pub record Diagram : Type 0 where
+  pub kept : List Port
+  pub pieces : List Piece
+  pub edges : List Edge
 
 module _ (G : Ground) (ask : DiagramAsk) (reached : List Node) where
   pub record IsKept (n : Node) : Type 0 where

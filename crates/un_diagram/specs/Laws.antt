@@ -1,16 +1,16 @@
--- What a diagram keeps: connection, and each open node in one place.
+-- What a diagram keeps: connection, and each open node in one place; and what the diagram of a reply is.
 use Rattle.std.specs.Prelude.{◌≡◌, ◌↔◌, ◌⊎◌, Bool, ◌&&◌, List, [], ◌∷◌, Contains, IsTrue, None}
 use Rattle.un_defs.specs.declared.port.Port.{Port}
 use Rattle.un_defs.specs.declared.port.Node.{Node}
 use Rattle.un_defs.specs.declared.walk.Mode.TheVariants.{Any}
-use Rattle.un_defs.specs.Ground.{Ground}
-use Rattle.un_defs.specs.Linked.{AreLinked}
-use Rattle.un_defs.specs.Reach.{Walk, leads, is_open}
-use Rattle.un_diagram.specs.declared.ask.DiagramAsk.{DiagramAsk}
-use Rattle.un_diagram.specs.declared.answer.Piece.{Piece}
-use Rattle.un_diagram.specs.declared.answer.Diagram.{Diagram}
-use Rattle.un_diagram.specs.Answer.{IsReachOf}
-use Rattle.un_diagram.specs.Diagram.{IsKept, IsPieceNamed, IsDiagram}
+use Rattle.un_defs.specs.Ground.{Ground, entry}
+use Rattle.un_defs.specs.Linked.{HaveOwnPorts, AreLinked}
+use Rattle.un_defs.specs.Reach.{Walk, leads, is_open, dirt}
+use Rattle.un_ask.specs.declared.typed.DiagramAsk.{DiagramAsk}
+use Rattle.un_ask.specs.declared.results.Piece.{Piece}
+use Rattle.un_diagram.specs.Answer.{IsReachOf, diagram_reply}
+use Rattle.un_diagram.specs.Diagram.{Diagram, IsKept, IsPieceNamed, IsDiagram}
+use Rattle.un_diagram.specs.DiagramLists.{diagram_of}
 
 -- what a diagram is of: the nodes that walks from the starts reach, linked as it needs it
 pub record IsDiagramOf (G : Ground) (ask : DiagramAsk) (reached : List Node) (d : Diagram) : Type 0 where
@@ -68,3 +68,16 @@ IsLine d q (s ∷ ss) r = IsShown d s × AreNeighbours d q s × IsLine d s ss r
 abbrev pub KeepsConnection : Type 0
 KeepsConnection = (G : Ground) (ask : DiagramAsk) (reached : List Node) (d : Diagram) → IsDiagramOf G ask reached d
     → (n m : Node) → IsKept G ask reached n → IsKept G ask reached m → Walk (goes_open G ask) (n ∷ []) m ↔ ((names : List Port) × IsLine d n.port names m.port)
+
+-- ---- the diagram of a reply
+
+-- of the nodes that walks reach, of which no two have one port, it has exactly the kept ports, the pieces and the edges, and is the only such diagram
+abbrev pub DiagramListLaw : Type 0
+DiagramListLaw = (G : Ground) (ask : DiagramAsk) (reached : List Node) → IsReachOf G ask reached → HaveOwnPorts reached
+    → IsDiagram G ask reached (diagram_of G ask reached) × ((d : Diagram) → IsDiagram G ask reached d → d ≡ diagram_of G ask reached)
+
+-- over two grounds with the same areas, and the same entries at the reached nodes where these are clean, the reply is one
+abbrev pub SameDiagramLaw : Type 0
+SameDiagramLaw = (G H : Ground) (ask : DiagramAsk) (reached : List Node) → G.areas ≡ H.areas
+    → (dirt G reached ≡ None → (n : Node) → Contains reached n → entry G n ≡ entry H n)
+    → diagram_reply G ask reached ≡ diagram_reply H ask reached

@@ -14,7 +14,7 @@ use Rattle.un_defs.specs.Linked.{AreLinked}
 use Rattle.un_defs.specs.Reach.{leads, is_open}
 use Rattle.un_walk.specs.declared.seen.Seen.{Seen}
 use Rattle.un_walk.specs.Seen.{spot_of, nodes_of, is_barrier_by, HaveEntries}
-use Rattle.un_diagram.specs.declared.ask.DiagramAsk.{DiagramAsk}
+use Rattle.un_ask.specs.declared.typed.DiagramAsk.{DiagramAsk}
 use Rattle.un_diagram.specs.declared.roles.Role.{Role}
 use Rattle.un_diagram.specs.declared.roles.Role.TheVariants.{Kept, Collapsed, Shut}
 use Rattle.un_diagram.specs.Diagram.{meets, is_chosen}

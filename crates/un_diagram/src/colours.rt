@@ -8,11 +8,10 @@ ghost use Rattle.un_diagram.specs.Diagram.{features_of};
 ghost use Rattle.un_diagram.specs.Places.{IsAt, AreReached, AreRoles};
 ghost use Rattle.un_diagram.specs.Colours.{HasColour, IsBlank, Colours, nodes_at, feature_at, AreClosed, IsSpread, AreColoured, ArePieces};
 
-use crate::answer::Piece;
-use crate::ask::DiagramAsk;
 use crate::ends::ends_from;
 use crate::roles::Role;
 use std::alloc::{AllocError, Global};
+use un_ask::{DiagramAsk, Piece};
 use un_defs::{Ground, Node};
 use un_walk::Seen;
 

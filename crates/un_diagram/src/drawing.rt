@@ -3,16 +3,14 @@
 ghost use Rattle.std.specs.Prelude.{◌≡◌, ◌≤◌, ◌+◌, List, length, filter_map, None, IfOk, OnOk};
 ghost use Rattle.std.specs.List.{zip};
 ghost use Rattle.un_defs.specs.declared.port.Node.{Node};
-ghost use Rattle.un_diagram.specs.Answer.{IsReachOf, AreLinkedOnCleanGround, IsAnswer};
-ghost use Rattle.un_diagram.specs.Diagram.{IsDiagram};
+ghost use Rattle.un_diagram.specs.Answer.{IsReachOf, AreLinkedOnCleanGround, diagram_given_dirt, IsAnswer};
 ghost use Rattle.un_diagram.specs.Places.{AreReached, port_if_kept};
 
-use crate::answer::{Diagram, DiagramAnswer, Edges, Pieces};
-use crate::ask::DiagramAsk;
 use crate::colours::{Colouring, coloured};
 use crate::edges::edges_of;
 use crate::roles::{Role, roles_of};
 use std::alloc::{AllocError, Global};
+use un_ask::{DiagramAsk, Edges, Pieces, Reply};
 use un_defs::port::Ports;
 use un_defs::{Ground, Mode, Node, Port};
 use un_steps::Steps;
@@ -39,16 +37,17 @@ fn kept_ports(alloc: Global, nodes: &[Node], roles: &[Role]) -> Result<Vec<Port>
         .collect(alloc)
 }
 
-/// The diagram, where no dirt was met.
+/// The reply with the diagram, where no dirt was met.
 fn drawn<G: Ground>(
     alloc: Global,
     over: &G,
     ask: &DiagramAsk,
     seen: &[Seen],
     nodes: &[Node],
-) -> Result<Diagram, AllocError>
+) -> Result<Reply, AllocError>
     requires { AreReached (G.stars_and_areas over.now) ask.now.barriers seen.now nodes.now }
-    ensures { IfOk result (IsDiagram (G.stars_and_areas over.now) ask.now nodes.now) }
+    ensures { IfOk result (λ reply. reply
+        ≡ diagram_given_dirt None (G.stars_and_areas over.now) ask.now nodes.now) }
 {
     let roles = roles_of(alloc, ask, seen)?;
     let kept = kept_ports(alloc, nodes, roles.as_slice())?;
@@ -63,25 +62,27 @@ fn drawn<G: Ground>(
         all.colours.as_slice(),
     )?;
     let Colouring { colours: _, pieces } = all;
-    Ok(Diagram {
+    Ok(Reply::Diagram {
+        edges: Edges::new(edges),
         kept: Ports::new(kept),
         pieces: Pieces::new(pieces),
-        edges: Edges::new(edges),
+        version: 0,
     })
 }
 
 /// The collapsed diagram of what walks from the starts reach over the ground.
 ///
-/// `steps` counts the stars that are looked up. It answers an error only for want of memory; the count may then have risen.
+/// The version in the reply is 0: the caller puts in its own. `steps` counts the stars that are looked up. It answers an error only for
+/// want of memory; the count may then have risen.
 pub fn diagram<G: Ground, L>(
     alloc: Global,
     over: &G,
     ask: &DiagramAsk,
     steps: &mut Steps<L>,
-) -> Result<DiagramAnswer, AllocError>
+) -> Result<Reply, AllocError>
     requires untiered { ask.now.barriers.tier ≡ None }
     requires linked { AreLinkedOnCleanGround (G.stars_and_areas over.now) ask.now }
-    // The dirt where the walks met some, and else the kept ports, the pieces and the edges.
+    // A refusal where the walks met dirt, and else exactly the kept ports, the pieces and the edges.
     ensures answer { IfOk result (IsAnswer (G.stars_and_areas over.now) ask.now) }
 
     // No more stars are looked up than nodes are reached.
@@ -98,9 +99,8 @@ pub fn diagram<G: Ground, L>(
         steps,
     )?;
     if let Some(dirt) = reached.dirt {
-        return Ok(DiagramAnswer::DirtyGround(dirt));
+        return Ok(Reply::on_dirty_ground(dirt));
     }
     let nodes = reached.nodes(alloc)?;
-    let drawn = drawn(alloc, over, ask, reached.seen.as_slice(), nodes.as_slice())?;
-    Ok(DiagramAnswer::Drawn(drawn))
+    drawn(alloc, over, ask, reached.seen.as_slice(), nodes.as_slice())
 }

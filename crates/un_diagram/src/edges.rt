@@ -2,17 +2,16 @@
 
 ghost use Rattle.std.specs.Prelude.{◌≡◌, ◌<◌, ◌↔◌, ℕ, length, Contains, Some, IfOk, OnOk};
 ghost use Rattle.std.specs.List.Sorted.{IsStrictlySortedBy};
-ghost use Rattle.un_diagram.specs.declared.answer.Edge.{Edge};
+ghost use Rattle.un_ask.specs.declared.results.Edge.{Edge};
 ghost use Rattle.un_diagram.specs.Diagram.{edge_cmp};
 ghost use Rattle.un_diagram.specs.Edges.{port_at, kept_port, piece_name, kept_after, seen_as};
 ghost use Rattle.un_diagram.specs.Places.{AreReached, AreRoles};
 ghost use Rattle.un_diagram.specs.Colours.{AreColoured, AddsEdges, IsEdgeBelow};
 
-use crate::answer::Edge;
-use crate::ask::DiagramAsk;
 use crate::ends::ends_from;
 use crate::roles::Role;
 use std::alloc::{AllocError, Global};
+use un_ask::{DiagramAsk, Edge};
 use un_defs::{Ground, Node, Port};
 use un_walk::Seen;
 

@@ -2,10 +2,11 @@
 //!
 //! # What is to be found
 //!
-//! Walks go over a ground from the starts, by any link, and end in a barrier. Where a dirty area covers a reached node, the answer is the least
-//! such area and the least port that it covers. Else the open reached nodes are drawn. Such a node is kept if it is a start, or if its entry meets
-//! the condition of the query, such as being a valve. The others are collapsed: two of them are in one piece if a walk over collapsed nodes leads
-//! from the one to the other. A piece is named by its least port, and shown with the numbers of its nodes and of the features that these are of.
+//! Walks go over a ground from the starts, by any link, and end in a barrier. Where a dirty area covers a reached node, the reply is a refusal
+//! that names the least such area and the least port that it covers. Else the open reached nodes are drawn. Such a node is kept if it is a start,
+//! or if its entry meets the condition of the query, such as being a valve. The others are collapsed: two of them are in one piece if a walk over
+//! collapsed nodes leads from the one to the other. A piece is named by its least port, and shown with the numbers of its nodes and of the features
+//! that these are of.
 //! Barriers, starts among them, are neither kept nor in a piece.
 //!
 //! An edge joins two kept ports that are linked, the lesser first, and a kept port with each piece that has a node linked to it, the kept port
@@ -40,14 +41,15 @@
 //! Nothing is lost by drawing so: along a walk over open nodes, each step stays in a piece or goes by an edge; and from each node of a piece walks
 //! lead to each other one, so a way along edges can be walked. [`laws`] has this as a theorem, and that each open node is in one place.
 //!
+//! The contract of the call gives the reply as lists that are computed from the definitions, each piece from the walks that begin at its least node.
+//! That these lists have exactly what is to be found, and that no others have, is a law too. So it is enough that the code finds just that.
+//!
 //! # What it costs
 //!
 //! Beside the walk over the ground, a binary search for each link of an open node, and sorting the features of each piece and the edges: in the
 //! order of (V + E) log (V + E).
 #![tactic(auto)]
 
-pub mod answer;
-pub mod ask;
 mod colours;
 pub mod drawing;
 mod edges;
@@ -55,6 +57,5 @@ mod ends;
 pub mod laws;
 mod roles;
 
-pub use answer::{Diagram, DiagramAnswer, Edge, Edges, Piece, Pieces};
-pub use ask::DiagramAsk;
 pub use drawing::diagram;
+pub use un_ask::DiagramAsk;

@@ -6,8 +6,8 @@ ghost use Rattle.un_defs.specs.Orders.{same_node};
 ghost use Rattle.un_diagram.specs.Diagram.{meets};
 ghost use Rattle.un_diagram.specs.Places.{is_chosen_by, role_by};
 
-use crate::ask::DiagramAsk;
 use std::alloc::{AllocError, Global};
+use un_ask::DiagramAsk;
 use un_conds::{Cond, holds};
 use un_defs::{Node, Spot};
 use un_walk::Seen;

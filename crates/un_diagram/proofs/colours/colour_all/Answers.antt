@@ -1,7 +1,7 @@
 use Rattle.std.proofs.Common.{◌≡◌, ℕ, ◌+◌, ◌++◌, List, [], ◌∷◌, length, Option, sym, ap, subst, ◌∙◌, Vec, Global, arith}
 use Rattle.un_defs.specs.declared.port.Node.{Node}
-use Rattle.un_diagram.specs.declared.ask.DiagramAsk.{DiagramAsk}
-use Rattle.un_diagram.specs.declared.answer.Piece.{Piece}
+use Rattle.un_ask.specs.declared.typed.DiagramAsk.{DiagramAsk}
+use Rattle.un_ask.specs.declared.results.Piece.{Piece}
 use Rattle.un_diagram.specs.declared.roles.Role.{Role}
 use Rattle.un_diagram.specs.Diagram.{features_of}
 use Rattle.un_diagram.specs.Colours.{nodes_at, IsSpread, AreColoured, ArePieces}

@@ -3,7 +3,7 @@ use Rattle.std.specs.Prelude.{slice_get, Contains}
 use Rattle.std.proofs.lemmas.Option.{slice_get_within, slice_get_read, get_or_from_slice_get}
 use Rattle.un_defs.specs.declared.port.Node.{Node}
 use Rattle.un_defs.proofs.Members.{among_from_contains}
-use Rattle.un_diagram.specs.declared.ask.DiagramAsk.{DiagramAsk}
+use Rattle.un_ask.specs.declared.typed.DiagramAsk.{DiagramAsk}
 use Rattle.un_diagram.specs.declared.roles.Role.{Role}
 use Rattle.un_diagram.specs.declared.roles.Role.TheVariants.{Collapsed}
 use Rattle.un_diagram.specs.Colours.{Colours, IsSpread}

@@ -4,9 +4,9 @@ use Rattle.un_defs.specs.declared.walk.Mode.TheVariants.{Any}
 use Rattle.un_defs.specs.Reach.{IsReach, leads, dirt}
 use Rattle.un_walk.specs.declared.seen.Seen.{Seen}
 use Rattle.un_walk.specs.Seen.{nodes_of, HaveEntries}
-use Rattle.un_diagram.specs.declared.ask.DiagramAsk.{DiagramAsk}
+use Rattle.un_ask.specs.declared.typed.DiagramAsk.{DiagramAsk}
 use Rattle.un_diagram.specs.Answer.{IsReachOf}
-use Rattle.un_diagram.proofs.Reaching.{are_reached, few_looked_up}
+use Rattle.un_diagram.proofs.Reaching.{are_reached, few_looked_up, on_ok_any}
 use Rattle.un_diagram.proofs.drawing.diagram.Goals as goal
 
 pub returns-in-Some-clause-ticks : goal.returns-in-Some-clause-ticks
@@ -20,8 +20,8 @@ pub returns-clause-ticks : goal.returns-clause-ticks
 returns-clause-ticks g c = λ reached reach.
     let G = g.G.Ground.stars_and_areas c.args.over.now in
     let ask : DiagramAsk = c.args.ask.now in
-    few_looked_up G ask c.in_ok-reached.reached.seen.items reached c.args.steps.now c.reach_seen.new.steps
-    (subst (λ s. IsReach (leads G ask.barriers Any) s (nodes_of c.in_ok-reached.reached.seen.items)) c.as_slice.ensures c.in_ok-reached.ensures.nodes) reach (c.in_ok-reached.ensures.ticks (inl c.requires.untiered))
+    on_ok_any c.drawn.result (few_looked_up G ask c.in_ok-reached.reached.seen.items reached c.args.steps.now c.reach_seen.new.steps
+    (subst (λ s. IsReach (leads G ask.barriers Any) s (nodes_of c.in_ok-reached.reached.seen.items)) c.as_slice.ensures c.in_ok-reached.ensures.nodes) reach (c.in_ok-reached.ensures.ticks (inl c.requires.untiered)))
 
 pub drawn-requires : goal.drawn-requires
 drawn-requires g c =

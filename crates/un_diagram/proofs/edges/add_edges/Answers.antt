@@ -6,8 +6,8 @@ use Rattle.un_defs.specs.declared.port.Port.{Port}
 use Rattle.un_defs.specs.declared.port.Node.{Node}
 use Rattle.un_defs.proofs.LinkCases.{some_same}
 use Rattle.un_walk.proofs.Growing.{contains_at}
-use Rattle.un_diagram.specs.declared.ask.DiagramAsk.{DiagramAsk}
-use Rattle.un_diagram.specs.declared.answer.Edge.{Edge}
+use Rattle.un_ask.specs.declared.typed.DiagramAsk.{DiagramAsk}
+use Rattle.un_ask.specs.declared.results.Edge.{Edge}
 use Rattle.un_diagram.specs.declared.roles.Role.{Role}
 use Rattle.un_diagram.specs.Edges.{port_at, seen_as}
 use Rattle.un_diagram.specs.Places.{IsAt}

@@ -1,6 +1,6 @@
 use Rattle.std.proofs.Common.{◌↔◌}
 use Rattle.std.specs.Prelude.{Contains}
-use Rattle.un_diagram.specs.declared.answer.Edge.{Edge}
+use Rattle.un_ask.specs.declared.results.Edge.{Edge}
 use Rattle.un_diagram.specs.Colours.{IsEdgeBelow}
 use Rattle.un_diagram.proofs.edges.edges_of.Given as goal
 

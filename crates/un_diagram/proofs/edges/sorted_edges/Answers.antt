@@ -3,7 +3,7 @@ use Rattle.std.specs.Prelude.{Contains}
 use Rattle.std.specs.List.{dedup}
 use Rattle.std.specs.List.Sorted.{IsSorted, IsStrictlySortedBy}
 use Rattle.std.proofs.lemmas.List.Filters.{dedup_is}
-use Rattle.un_diagram.specs.declared.answer.Edge.{Edge}
+use Rattle.un_ask.specs.declared.results.Edge.{Edge}
 use Rattle.un_diagram.specs.Diagram.{edge_cmp}
 use Rattle.un_diagram.proofs.Alike.{edges_alike, equal_edges_alike, same_edge, edge_same, edge_itself, edge_total, edge_ties}
 use Rattle.un_diagram.proofs.Sorting.{once_sorted, once_same}
