@@ -3,3 +3,4 @@ pub mod NoMemory
 pub mod Tiers
 pub mod StartsStand
 pub mod Isolating
+pub mod WalksAsked

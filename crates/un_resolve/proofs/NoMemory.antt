@@ -1,5 +1,6 @@
 -- No refusal that can be told before a walk is one of want of memory: that is told apart from all causes.
-use Rattle.std.proofs.Common.{ℕ, ◌==◌, ◌&&◌, not, length, map, is_some, Bool, List, [], ◌∷◌, Option, None, Some}
+use Rattle.std.proofs.Common.{◌≢◌, ℕ, ◌==◌, ◌&&◌, not, length, map, is_some, Bool, List, [], ◌∷◌, Option, None, Some, ok_or, Result, Ok, Err}
+use Rattle.std.specs.Prelude.{⊤}
 use Rattle.std.specs.Option.{option_map_or}
 use Rattle.un_conds.specs.Conditions.{Condition}
 use Rattle.un_schema.specs.declared.place.Place.{Place}
@@ -15,6 +16,9 @@ use Rattle.un_defs.specs.Refusing.{first_refusal, refused_if}
 use Rattle.un_defs.specs.Features.{Features, row}
 use Rattle.un_ask.specs.declared.trace.TraceAsk.{TraceAsk}
 use Rattle.un_ask.specs.declared.rule.NamedRule.{NamedRule}
+use Rattle.un_ask.specs.declared.path.NamedPath.{NamedPath}
+use Rattle.un_ask.specs.declared.path.NamedCheck.{NamedCheck}
+use Rattle.un_ask.specs.declared.diagram.NamedDiagram.{NamedDiagram}
 use Rattle.un_tiers.specs.declared.setup.Setup.{Setup}
 use Rattle.un_defs.proofs.NoMemory.{IsOther, AreOther, first_other, other_where}
 use Rattle.un_resolve.specs.Kinds.{needs_tier, is_subnetwork, is_isolation, lacks, lacking}
@@ -22,6 +26,7 @@ use Rattle.un_resolve.specs.Starts.{given_starts, start_node, no_feature, no_sta
 use Rattle.un_resolve.specs.Valves.{isolates, on_valve, valves_refusal}
 use Rattle.un_resolve.specs.Rules.{numbered, no_kind, kinds_of, unknown_kind, wrong_class, naming_refusal}
 use Rattle.un_resolve.specs.Resolved.{condition_of, bad_condition, conditions_refusal, valve_refusal, resolving_refusal}
+use Rattle.un_resolve.specs.Walks.{behind, and_then, node_at, ends_asked, path_from, path_asked, check_from, check_asked, condition_asked, diagram_asked}
 
 lacks_other : (needed given : Bool) (p : Place) → IsOther (lacks needed given p)
 lacks_other needed given p = other_where (needed && not given) (refusal.BadRequest p) (λ e. cc)
@@ -106,3 +111,52 @@ pub naming_other : (S : Catalog) (named : NamedRule) → IsOther (naming_refusal
 unfolding AreOther
 naming_other S named = first_other (unknown_kind S named ∷ wrong_class S named ∷ [])
     (first_other (map (no_kind S) (kinds_of named)) (all_other (no_kind S) (kind_other S) (kinds_of named)), (class_other S named, tt))
+
+-- ---- paths, checks and diagrams
+
+-- what comes out is no want of memory
+abbrev pub IsOtherOf : {A : Type 0} → Result A Refusal → Type 0
+IsOtherOf (Err r) = r ≢ refusal.Memory
+IsOtherOf (Ok a) = ⊤
+
+module _ {A : Type 0} where
+  behind_other : (d : Option Refusal) (next : Result A Refusal) → IsOther d → IsOtherOf next → IsOtherOf (behind d next)
+  unfolding IsOther
+  behind_other None next cause rest = rest
+  behind_other (Some r) next cause rest = cause
+
+  and_then_other : {B : Type 0} (f : A → Result B Refusal) (x : Result A Refusal) → ((a : A) → IsOtherOf (f a)) → IsOtherOf x → IsOtherOf (and_then f x)
+  and_then_other f (Err r) later now = now
+  and_then_other f (Ok a) later now = later a
+
+  found_other : (o : Option A) (r : Refusal) → r ≢ refusal.Memory → IsOtherOf (ok_or o r)
+  found_other None r other = other
+  found_other (Some a) r other = tt
+
+node_other : (F : Features) (q : Port) → IsOtherOf (node_at F q)
+node_other F q = found_other (start_node F q) (refusal.NoStart q.feature q.number) (λ e. cc)
+
+ends_other : (S : Catalog) (F : Features) (from to : Port) (barriers : Option (Condition (List ℕ))) (stops : List Port) → IsOtherOf (ends_asked S F from to barriers stops)
+ends_other S F from to barriers stops =
+    behind_other (first_refusal (map (no_feature F) (from ∷ to ∷ []))) _ (ports_other (no_feature F) (feature_other F) (from ∷ to ∷ []))
+    (and_then_other _ (node_at F from)
+    (λ a. and_then_other _ (node_at F to) (λ b. behind_other (bad_condition S barriers place.Barriers) _ (condition_other S barriers place.Barriers) tt) (node_other F to))
+    (node_other F from))
+
+pub path_other : (S : Catalog) (F : Features) (ask : NamedPath) → IsOtherOf (path_asked S F ask)
+path_other S F ask =
+    and_then_other (λ ends. Ok (path_from S ask ends)) (ends_asked S F ask.from ask.to ask.barriers ask.stops) (λ ends. tt)
+    (ends_other S F ask.from ask.to ask.barriers ask.stops)
+
+pub check_other : (S : Catalog) (F : Features) (ask : NamedCheck) → IsOtherOf (check_asked S F ask)
+check_other S F ask =
+    and_then_other (λ ends. Ok (check_from S ask ends)) (ends_asked S F ask.from ask.to ask.barriers ask.stops) (λ ends. tt)
+    (ends_other S F ask.from ask.to ask.barriers ask.stops)
+
+pub diagram_other : (S : Catalog) (F : Features) (ask : NamedDiagram) → IsOtherOf (diagram_asked S F ask)
+diagram_other S F ask =
+    behind_other (first_refusal (map (no_feature F) ask.starts)) _ (ports_other (no_feature F) (feature_other F) ask.starts)
+    (behind_other (first_refusal (map (no_start F) ask.starts)) _ (ports_other (no_start F) (start_other F) ask.starts)
+    (and_then_other _ (condition_asked S ask.keep place.Keep)
+    (λ keep. behind_other (bad_condition S ask.barriers place.Barriers) _ (condition_other S ask.barriers place.Barriers) tt)
+    (found_other (condition_of S (Some ask.keep)) (refusal.BadCondition place.Keep) (λ e. cc))))

@@ -26,7 +26,7 @@ of_row r number n e = go (has_port r number) refl e
         among-filter_map (node_of r) (port_numbers_of r) number n (subst (Among (port_numbers_of r)) (eqb-true k.0 number k.2) k.1) e
     go false has e = absurd (none_some e)
 
-node_stands : (F : Features) (q : Port) (n : Node) → start_node F q ≡ Some n → Among (nodes F) n
+pub node_stands : (F : Features) (q : Port) (n : Node) → start_node F q ≡ Some n → Among (nodes F) n
 node_stands F q n e = go (row F q.feature) refl e
   where
     go : (o : Option Row) → row F q.feature ≡ o → option_and_then (λ r. port_node r q.number) o ≡ Some n → Among (nodes F) n

@@ -3,3 +3,4 @@ pub mod Starts
 pub mod Resolved
 pub mod Valves
 pub mod Rules
+pub mod Walks

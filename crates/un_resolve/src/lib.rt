@@ -1,4 +1,4 @@
-//! Traces and rules with their names looked up.
+//! Traces, paths, diagrams and rules with their names looked up.
 //!
 //! # What is to be found
 //!
@@ -14,6 +14,9 @@
 //! does this and builds the trace. A start stands at the
 //! place that its port has in the row now, so it may stand at a point whose star is older than the row.
 //!
+//! A path, a check of a certificate and a diagram walk in no tier ([`paths`], [`diagrams`]): the features of their ports are looked at first,
+//! then the ports, and then their conditions.
+//!
 //! A rule is given by the names of its kinds; [`rules`] looks them up in the order in which the rule names them.
 //!
 //! # What it costs
@@ -21,12 +24,16 @@
 //! A look-up of a row for each start, and for a subnetwork trace a pass over all controllers, of which there are at most 4,096.
 #![tactic(auto)]
 
+mod diagrams;
 mod kinds;
 mod names;
+mod paths;
 mod rules;
 mod starts;
 pub mod trace;
 mod valves;
 
+pub use diagrams::resolve_diagram;
+pub use paths::{resolve_check, resolve_path};
 pub use rules::resolve_rule;
 pub use trace::resolve;

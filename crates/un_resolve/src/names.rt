@@ -20,7 +20,7 @@ pub(crate) struct Conditions {
 }
 
 /// The condition by numbers, if one is given. One with an unknown name, or too deep or too large, is refused with its place.
-fn condition(
+pub(crate) fn condition(
     alloc: Global,
     schema: &Schema,
     given: &Option<RawCondition>,

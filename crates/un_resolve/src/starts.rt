@@ -30,14 +30,14 @@ pub(crate) fn given_starts(ask: &TraceAsk) -> &[Port]
 }
 
 /// The node of a port of a live row.
-fn start_node<D: Directory>(features: &D, start: Port) -> Option<Node>
+pub(crate) fn start_node<D: Directory>(features: &D, start: Port) -> Option<Node>
     ensures { result ≡ start_node (D.features features.now) start }
 {
     features.row(start.feature)?.port_node(start.number)
 }
 
 /// Refuses the first port whose feature is not live.
-fn check_features<D: Directory>(features: &D, ports: &[Port]) -> Result<(), Refusal>
+pub(crate) fn check_features<D: Directory>(features: &D, ports: &[Port]) -> Result<(), Refusal>
     ensures good { OnOk result (first_refusal (map (no_feature (D.features features.now)) ports.now) ≡ None) }
     ensures bad { IfErr result (λ r. first_refusal (map (no_feature (D.features features.now)) ports.now)
         ≡ Some r) }
@@ -51,7 +51,7 @@ fn check_features<D: Directory>(features: &D, ports: &[Port]) -> Result<(), Refu
 }
 
 /// Refuses the first port that its feature has not.
-fn check_ports<D: Directory>(features: &D, ports: &[Port]) -> Result<(), Refusal>
+pub(crate) fn check_ports<D: Directory>(features: &D, ports: &[Port]) -> Result<(), Refusal>
     ensures good { OnOk result (first_refusal (map (no_start (D.features features.now)) ports.now) ≡ None) }
     ensures bad { IfErr result (λ r. first_refusal (map (no_start (D.features features.now)) ports.now)
         ≡ Some r) }
@@ -68,7 +68,7 @@ fn check_ports<D: Directory>(features: &D, ports: &[Port]) -> Result<(), Refusal
 }
 
 /// The nodes of those of the ports that have one.
-fn nodes_of<D: Directory>(
+pub(crate) fn nodes_of<D: Directory>(
     alloc: Global,
     features: &D,
     ports: &[Port],

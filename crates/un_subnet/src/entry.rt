@@ -37,6 +37,7 @@ impl Entry {
         Ok(Entry { row, status })
     }
 
+    /// Whether it is the row of this subnetwork of the tier.
     pub(crate) fn is_of(&self, tier: u8, subnet: &Name) -> bool
         ensures { result ≡ is_row_of tier subnet.now self.now }
     {
