@@ -4,4 +4,5 @@ pub mod Attributes
 pub mod Inclusions
 pub mod Conditions
 pub mod RuleForms
+pub mod Labels
 pub mod Texts

@@ -1,5 +1,5 @@
 -- The forms that the values of members may have: what a JSON value is, if it has the form.
-use Rattle.std.specs.Prelude.{ℕ, ℤ, int_le, nat_le, Bool, true, false, ◌&&◌, ◌==◌, List, [], ◌∷◌, length, Option, None, Some, option_and_then, option_map, is_some, if◌then◌else◌, codes}
+use Rattle.std.specs.Prelude.{ℕ, ℤ, pos, negsuc, int_le, nat_le, Bool, true, false, ◌&&◌, ◌==◌, List, [], ◌∷◌, length, Option, None, Some, option_and_then, option_map, is_some, if◌then◌else◌, codes}
 use Rattle.std.specs.List.{list_all}
 use Rattle.std.specs.Str.{bytes_eq}
 use Rattle.serde_json.specs.Data.{Data, null, boolean, number, string, array, object, Items, no_items, item, Members, no_members, member}
@@ -18,6 +18,7 @@ use Rattle.un_ask.specs.Words.{trace_named}
 use Rattle.un_ask.specs.declared.trace.Include.{Include}
 use Rattle.un_ask.specs.declared.trace.NamedFunc.{NamedFunc}
 use Rattle.un_ask.specs.declared.trace.NamedFunc.TheVariants as func
+use Rattle.un_ask.specs.declared.results.Label.{Label}
 use Rattle.un_ask.specs.declared.rule.NamedRule.{NamedRule}
 use Rattle.un_ask.specs.declared.rule.NamedRule.TheVariants as rule
 use Rattle.un_json.specs.declared.words.Inclusion.{Inclusion}
@@ -53,6 +54,13 @@ terminal_of = count_from_to 1 8
 -- a text that has the form of a name
 abbrev pub name_of : Data → Option (List ℕ)
 name_of d = kept is_name (as_str d)
+
+abbrev pub some_name_of : Data → Option (Option (List ℕ))
+some_name_of d = option_map Some (name_of d)
+
+-- a name, or null for none
+abbrev pub weight_of : Data → Option (Option (List ℕ))
+weight_of d = if is_some (as_null d) then Some None else some_name_of d
 
 -- a text of at most 256 bytes
 abbrev pub note_of : Data → Option (List ℕ)
@@ -123,6 +131,38 @@ starts_of = list_from_to 1 64 port_of
 
 abbrev pub stops_of : Data → Option (List Port)
 stops_of = list_from_to 0 64 port_of
+
+-- ---- certificates
+
+-- the ports of a walk
+abbrev pub nodes_of : Data → Option (List Port)
+nodes_of = list_from_to 0 65536 port_of
+
+abbrev pub natural : ℤ → Option ℕ
+natural (pos n) = Some n
+natural (negsuc n) = None
+
+-- a whole number that is not negative
+abbrev pub cost_of : Data → Option ℕ
+cost_of d = option_and_then natural (whole d)
+
+abbrev pub label : Port → ℕ → Label
+label reached cost = record { port = reached; cost = cost }
+
+-- a label: a port as above, and what a walk to it costs
+abbrev pub label_from : Items → Option Label
+label_from no_items = None
+label_from (item d no_items) = None
+label_from (item d (item e no_items)) = None
+label_from (item d (item e (item f no_items))) =
+    option_and_then (λ id. option_and_then (λ n. option_map (λ cost. label (port id n) cost) (cost_of f)) (count_from_to 0 63 e)) (id_of d)
+label_from (item d (item e (item f (item other ds)))) = None
+
+abbrev pub label_of : Data → Option Label
+label_of d = option_and_then label_from (as_array d)
+
+abbrev pub labels_of : Data → Option (List Label)
+labels_of = list_from_to 0 65536 label_of
 
 -- ---- attributes
 

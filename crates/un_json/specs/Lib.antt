@@ -1,4 +1,5 @@
 pub mod Forms
 pub mod Rows
+pub mod Words
 pub mod Table
 pub mod Requests

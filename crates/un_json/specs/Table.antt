@@ -1,6 +1,6 @@
 -- The members of each request, by its word, in the order in which they are looked at: `required` for a member that must be there, with its
 -- name and its form, and `optional` for one that may be absent, with the value that it has then.
-use Rattle.std.specs.Prelude.{ℕ, Bool, [], ◌∷◌, List, true, false, Option, None, Some, option_map, option_and_then, Result}
+use Rattle.std.specs.Prelude.{ℕ, Bool, [], ◌∷◌, List, true, false, Option, None, is_some, option_map, option_and_then, Result, Err, if◌then◌else◌}
 use Rattle.std.specs.Result.{result_ok}
 use Rattle.serde_json.specs.Data.{Data}
 use Rattle.serde_json.specs.Find.{get, as_str, as_bool}
@@ -17,20 +17,25 @@ use Rattle.un_ask.specs.declared.word.EditWord.TheVariants as word
 use Rattle.un_ask.specs.declared.request.Command.{Command}
 use Rattle.un_ask.specs.declared.request.Command.TheVariants as command
 use Rattle.un_ask.specs.declared.query.Query.{Query}
+use Rattle.un_ask.specs.declared.query.PastQuery.{PastQuery}
 use Rattle.un_ask.specs.declared.query.Asked.{Asked}
 use Rattle.un_ask.specs.declared.query.Asked.TheVariants as asked
 use Rattle.un_ask.specs.declared.trace.TraceKind.{TraceKind}
 use Rattle.un_ask.specs.declared.trace.TraceKind.TheVariants as trace
 use Rattle.un_ask.specs.declared.trace.Include.{Include}
 use Rattle.un_ask.specs.declared.trace.NamedFunc.{NamedFunc}
+use Rattle.un_ask.specs.declared.results.Label.{Label}
 use Rattle.un_ask.specs.Batches.{is_batch}
 use Rattle.un_ask.specs.Words.{edit_named}
+use Rattle.un_json.specs.declared.words.Word.{Word}
+use Rattle.un_json.specs.declared.words.Word.TheVariants.{Do, Ask, Past}
 use Rattle.un_json.specs.declared.words.CommandWord.{CommandWord}
 use Rattle.un_json.specs.declared.words.CommandWord.TheVariants as does
 use Rattle.un_json.specs.declared.words.QueryWord.{QueryWord}
 use Rattle.un_json.specs.declared.words.QueryWord.TheVariants as asks
 use Rattle.un_json.specs.Rows.{Row, makes, ◌&◌, required, optional, required_when, optional_when, required_member, answers, mapped, and_then}
-use Rattle.un_json.specs.Forms.{kept, id_of, base_of, name_of, points_of, attrs_of, flow_of, ends_of, note_of, port_of, terminal_of, list_of, extent_of, rule_of, starts_of, stops_of, kind_of, some_condition_of, barriers_of, include_of, functions_of, nothing}
+use Rattle.un_json.specs.Words.{word_of}
+use Rattle.un_json.specs.Forms.{kept, id_of, base_of, name_of, some_name_of, weight_of, points_of, attrs_of, flow_of, ends_of, note_of, port_of, terminal_of, list_of, extent_of, rule_of, starts_of, stops_of, nodes_of, labels_of, kind_of, condition_of, some_condition_of, barriers_of, include_of, functions_of, nothing}
 
 -- ---- edits
 
@@ -142,9 +147,6 @@ takes_include trace.Loops = false
 takes_include trace.Isolation = false
 takes_include _ = true
 
-abbrev pub some_name_of : Data → Option (Option (List ℕ))
-some_name_of d = option_map Some (name_of d)
-
 abbrev pub traced : TraceKind → List Port → Option (List ℕ) → Option (List ℕ) → Option (Condition (List ℕ)) → Option (Condition (List ℕ)) → List Port → Bool → Include → List NamedFunc → ℕ → Query
 traced kind starts tier subnet isolators barriers stops consistent include functions seen = query (asked.Trace (record {
   kind = kind;
@@ -174,6 +176,56 @@ trace_row kind =
     & optional_when (takes_include kind) place.Functions functions_of []
     & optional place.Seen base_of 0
 
+-- ---- paths
+
+abbrev pub path_asked : Port → Port → Option (List ℕ) → Option (Condition (List ℕ)) → List Port → Bool → ℕ → Query
+path_asked from to weight barriers stops certificate seen = query (asked.Path (record {
+  from = from;
+  to = to;
+  weight = weight;
+  barriers = barriers;
+  stops = stops;
+  certificate = certificate;
+})) seen
+
+abbrev pub path : Row Query
+path =
+    makes path_asked & required place.From port_of & required place.To port_of & optional place.Weight weight_of None
+    & optional place.Barriers barriers_of None & optional place.Stops stops_of [] & optional place.Certificate as_bool false
+    & optional place.Seen base_of 0
+
+abbrev pub check_asked : Port → Port → Option (List ℕ) → Option (Condition (List ℕ)) → List Port → List Port → List Label → ℕ → Query
+check_asked from to weight barriers stops nodes labels seen = query (asked.Check (record {
+  from = from;
+  to = to;
+  weight = weight;
+  barriers = barriers;
+  stops = stops;
+  nodes = nodes;
+  labels = labels;
+})) seen
+
+abbrev pub check : Row Query
+check =
+    makes check_asked & required place.From port_of & required place.To port_of & optional place.Weight weight_of None
+    & optional place.Barriers barriers_of None & optional place.Stops stops_of [] & required place.Nodes nodes_of
+    & required place.Labels labels_of & optional place.Seen base_of 0
+
+-- ---- diagrams
+
+abbrev pub diagram_asked : List Port → Condition (List ℕ) → Option (Condition (List ℕ)) → List Port → ℕ → Query
+diagram_asked starts keep barriers stops seen = query (asked.Diagram (record {
+  starts = starts;
+  keep = keep;
+  barriers = barriers;
+  stops = stops;
+})) seen
+
+abbrev pub diagram : Row Query
+diagram =
+    makes diagram_asked & required place.Starts starts_of & required place.Keep condition_of & optional place.Barriers barriers_of None
+    & optional place.Stops stops_of [] & optional place.Seen base_of 0
+
 abbrev pub query_answer : QueryWord → Data → Result Query Place
 query_answer asks.Version d = answers place.Ask version d
 query_answer asks.Feature d = answers place.Ask feature d
@@ -181,3 +233,29 @@ query_answer asks.Dirty d = answers place.Ask dirty d
 query_answer asks.Errors d = answers place.Ask errors d
 query_answer asks.Subnet d = answers place.Ask subnet d
 query_answer asks.Trace d = and_then (λ kind. answers place.Ask (trace_row kind) d) (required_member place.Type kind_of d)
+query_answer asks.Path d = answers place.Ask path d
+query_answer asks.Check d = answers place.Ask check d
+query_answer asks.Diagram d = answers place.Ask diagram d
+
+-- ---- queries at past versions
+
+-- the query that an object is by its word, which is no command and asks nothing at a past version
+abbrev pub nested_answer : Word → Data → Result Query Place
+nested_answer (Ask w) d = query_answer w d
+nested_answer (Do w) d = Err place.Ask
+nested_answer Past d = Err place.Ask
+
+-- what a request asks that is such a query and has no member `seen`
+abbrev pub nested_of : Data → Option Asked
+nested_of d =
+    if is_some (get (place_text place.Seen) d) then None
+    else option_map (λ q. q.what) (result_ok (and_then (λ w. nested_answer w d) (word_of d)))
+
+abbrev pub past_query : ℕ → Asked → ℕ → PastQuery
+past_query base what seen = record { seen = seen; at = base; what = what }
+
+abbrev pub past : Row PastQuery
+past = makes past_query & required place.At base_of & required place.Query nested_of & optional place.Seen base_of 0
+
+abbrev pub past_answer : Data → Result PastQuery Place
+past_answer d = answers place.Ask past d

@@ -16,6 +16,24 @@ use un_conds::{Op, RawCond, Text};
 pub(crate) struct Condition;
 
 impl Form for Condition {
+    ghost use Rattle.un_json.specs.Forms.{condition_of};
+
+    type Out = RawCondition;
+
+    ghost form = { condition_of };
+
+    fn read(alloc: Global, value: &Value) -> Result<Option<RawCondition>, AllocError> {
+        match read_condition(alloc, value)? {
+            Some(raw) => Ok(Some(RawCondition::new(raw))),
+            None => Ok(None),
+        }
+    }
+}
+
+/// A condition, read as `Some`.
+pub(crate) struct SomeCondition;
+
+impl Form for SomeCondition {
     ghost use Rattle.un_json.specs.Forms.{some_condition_of};
 
     type Out = Option<RawCondition>;
@@ -23,8 +41,8 @@ impl Form for Condition {
     ghost form = { some_condition_of };
 
     fn read(alloc: Global, value: &Value) -> Result<Option<Option<RawCondition>>, AllocError> {
-        match read_condition(alloc, value)? {
-            Some(raw) => Ok(Some(Some(RawCondition::new(raw)))),
+        match Condition::read(alloc, value)? {
+            Some(condition) => Ok(Some(Some(condition))),
             None => Ok(None),
         }
     }
@@ -44,7 +62,7 @@ impl Form for Barrier {
         if value.is_null() {
             return Ok(Some(None));
         }
-        Condition::read(alloc, value)
+        SomeCondition::read(alloc, value)
     }
 }
 

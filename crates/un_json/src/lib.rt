@@ -2,13 +2,17 @@
 #![tactic(auto)]
 
 mod attrs;
+mod certificate;
 mod command;
 pub mod condition;
+mod diagram;
 mod edit;
 pub mod fault;
 pub mod form;
 mod include;
 pub mod list;
+mod past;
+mod path;
 mod query;
 pub mod request;
 pub mod rule;

@@ -1,5 +1,5 @@
 //! Forms of lists.
-ghost use Rattle.std.specs.Prelude.{◌≡◌, IfOk, option_map};
+ghost use Rattle.std.specs.Prelude.{◌≡◌, [], IfOk, option_map};
 ghost use Rattle.serde_json.specs.View.{view, items_view};
 ghost use Rattle.un_json.specs.Forms.{each_item, list_of, list_from_to, numbers_of, extent_of, ends_of, port_of};
 
@@ -218,4 +218,11 @@ impl Form for Stops {
             None => Ok(None),
         }
     }
+}
+
+/// No ports.
+pub(crate) fn no_ports(alloc: Global) -> Ports
+    ensures { result ≡ [] }
+{
+    Ports::new(Vec::new(alloc))
 }

@@ -4,15 +4,17 @@ ghost use Rattle.serde_json.specs.View.{view};
 ghost use Rattle.un_schema.specs.declared.place.Place.TheVariants as place;
 ghost use Rattle.serde_json.specs.Find.{as_bool};
 ghost use Rattle.un_json.specs.Rows.{Blames, required_member, required_member_when, optional_member_when, answers};
-ghost use Rattle.un_json.specs.Table.{query_answer, trace_row, takes_starts, takes_tier, takes_subnet, takes_isolators, takes_consistent, takes_include, some_name_of};
-ghost use Rattle.un_json.specs.Forms.{kind_of, starts_of, some_condition_of, include_of, functions_of, nothing};
+ghost use Rattle.un_json.specs.Table.{query_answer, trace_row, takes_starts, takes_tier, takes_subnet, takes_isolators, takes_consistent, takes_include};
+ghost use Rattle.un_json.specs.Forms.{kind_of, starts_of, some_name_of, some_condition_of, include_of, functions_of, nothing};
 ghost use Rattle.un_json.specs.declared.words.QueryWord.TheVariants as asks;
 
-use crate::condition::{Barrier, Condition};
+use crate::condition::{Barrier, SomeCondition};
+use crate::diagram::read_diagram;
 use crate::fault::ReadFault;
 use crate::form::{no_others, optional, optional_when, required, required_when};
 use crate::include::{Functions, Inclusions, nothing};
-use crate::list::{Extent, Starts, Stops};
+use crate::list::{Extent, Starts, Stops, no_ports};
+use crate::path::{read_check, read_path};
 use crate::scalar::{Base, Id, Kinds, Named, SomeName, Truth};
 use crate::words::QueryWord;
 use serde_json::Value;
@@ -176,7 +178,7 @@ fn read_isolators(
         (λ e. Blames e (required_member_when (takes_isolators kind) place.Isolators some_condition_of None (view object.now))) }
 {
     let taken = matches!(kind, TraceKind::Isolation);
-    required_when::<Condition>(taken, alloc, object, Place::Isolators, None)
+    required_when::<SomeCondition>(taken, alloc, object, Place::Isolators, None)
 }
 
 /// Whether the trace is consistent.
@@ -310,12 +312,6 @@ fn members_of(kind: TraceKind) -> &'static [Place]
     }
 }
 
-fn no_ports(alloc: Global) -> Ports
-    ensures { result ≡ [] }
-{
-    Ports::new(Vec::new(alloc))
-}
-
 fn no_functions(alloc: Global) -> NamedFuncs
     ensures { result ≡ [] }
 {
@@ -334,5 +330,8 @@ pub(crate) fn read_query(alloc: Global, word: QueryWord, object: &Value) -> Resu
         QueryWord::Errors => read_errors(alloc, object),
         QueryWord::Subnet => read_subnet(alloc, object),
         QueryWord::Trace => read_trace(alloc, object),
+        QueryWord::Path => read_path(alloc, object),
+        QueryWord::Check => read_check(alloc, object),
+        QueryWord::Diagram => read_diagram(alloc, object),
     }
 }

@@ -3,20 +3,23 @@
 //! A text is first read as a JSON value. The value must be an object with exactly one of the members `do` and `ask`, whose word
 //! determines the other members. A table in the definitions lists them for each word, each with its form; they are checked in the
 //! table's order, and the refusal names the first one that is missing or has another form. So one function for each word reads its
-//! members in that order and stops at the first bad one; members that are not in the table are looked for last.
+//! members in that order and stops at the first bad one; members that are not in the table are looked for last. A query at a past
+//! version has another query as its member `query`, which is read by the same table; whatever is bad inside it, the refusal names `query`.
 //! Each look-up walks the object's members once, and what is kept of the value is copied.
 ghost use Rattle.std.specs.Prelude.{◌≡◌, ◌≢◌, Ok, Err, Some, None, IfOk, IfErr};
 ghost use Rattle.serde_json.specs.View.{view};
 ghost use Rattle.un_json.specs.Rows.{Blames};
-ghost use Rattle.un_json.specs.Requests.{whole_command_named, command_named, query_named, command_word_of, query_word_of, word_of, answer_to, request_of, json_of, ask};
+ghost use Rattle.un_json.specs.Words.{word_of};
+ghost use Rattle.un_json.specs.Requests.{answer_to, request_of, json_of, ask};
 
 use crate::command::read_command;
 use crate::fault::ReadFault;
+use crate::past::read_past;
 use crate::query::read_query;
-use crate::words::{CommandWord, QueryWord, Word};
+use crate::words::{Word, word_of};
 use serde_json::Value;
 use std::alloc::Global;
-use un_ask::{EditWord, Place, Request};
+use un_ask::{Place, Request};
 
 /// Reads a request. The fault is `NotJson` exactly if the bytes are not a JSON value in UTF-8, and otherwise `BadRequest` with the
 /// first bad place. Any call may return `Memory` instead.
@@ -68,89 +71,9 @@ fn answer(alloc: Global, word: Word, object: &Value) -> Result<Request, ReadFaul
             let query = read_query(alloc, word, object)?;
             Ok(Request::Query(query))
         }
-    }
-}
-
-// The word of an object.
-fn word_of(object: &Value) -> Result<Word, ReadFault>
-    ensures ok { IfOk result (λ word. word_of (view object.now) ≡ Ok word) }
-    ensures err { IfErr result (λ e. Blames e (word_of (view object.now))) }
-{
-    match object.get(Place::Do.text()) {
-        Some(value) => {
-            if object.get(Place::Ask.text()).is_some() {
-                return Err(ReadFault::BadRequest { place: Place::Do });
-            }
-            command_word(value)
+        Word::Past => {
+            let past = read_past(alloc, object)?;
+            Ok(Request::Past(past))
         }
-        None => match object.get(Place::Ask.text()) {
-            Some(value) => query_word(value),
-            None => Err(ReadFault::BadRequest { place: Place::Do }),
-        },
-    }
-}
-
-fn command_word(value: &Value) -> Result<Word, ReadFault>
-    ensures ok { IfOk result (λ word. command_word_of (view value.now) ≡ Ok word) }
-    ensures err { IfErr result (λ e. Blames e (command_word_of (view value.now))) }
-{
-    match value.as_str().and_then(command_named) {
-        Some(word) => Ok(Word::Do(word)),
-        None => Err(ReadFault::BadRequest { place: Place::Do }),
-    }
-}
-
-fn query_word(value: &Value) -> Result<Word, ReadFault>
-    ensures ok { IfOk result (λ word. query_word_of (view value.now) ≡ Ok word) }
-    ensures err { IfErr result (λ e. Blames e (query_word_of (view value.now))) }
-{
-    match value.as_str().and_then(query_named) {
-        Some(word) => Ok(Word::Ask(word)),
-        None => Err(ReadFault::BadRequest { place: Place::Ask }),
-    }
-}
-
-fn command_named(text: &str) -> Option<CommandWord>
-    ensures { result ≡ command_named text.now }
-{
-    match EditWord::named(text) {
-        Some(word) => Some(CommandWord::Edit(word)),
-        None => whole_command_named(text),
-    }
-}
-
-fn whole_command_named(text: &str) -> Option<CommandWord>
-    ensures { result ≡ whole_command_named text.now }
-{
-    if text == "batch" {
-        Some(CommandWord::Batch)
-    } else if text == "rule" {
-        Some(CommandWord::Rule)
-    } else if text == "validate" {
-        Some(CommandWord::Validate)
-    } else if text == "update" {
-        Some(CommandWord::Update)
-    } else {
-        None
-    }
-}
-
-fn query_named(text: &str) -> Option<QueryWord>
-    ensures { result ≡ query_named text.now }
-{
-    if text == "version" {
-        Some(QueryWord::Version)
-    } else if text == "feature" {
-        Some(QueryWord::Feature)
-    } else if text == "dirty" {
-        Some(QueryWord::Dirty)
-    } else if text == "errors" {
-        Some(QueryWord::Errors)
-    } else if text == "subnet" {
-        Some(QueryWord::Subnet)
-    } else if text == "trace" {
-        Some(QueryWord::Trace)
-    } else {
-        None
     }
 }

@@ -122,7 +122,7 @@ impl Form for Named {
 pub(crate) struct SomeName;
 
 impl Form for SomeName {
-    ghost use Rattle.un_json.specs.Table.{some_name_of};
+    ghost use Rattle.un_json.specs.Forms.{some_name_of};
 
     type Out = Option<Name>;
 
@@ -133,6 +133,24 @@ impl Form for SomeName {
             Some(name) => Ok(Some(Some(name))),
             None => Ok(None),
         }
+    }
+}
+
+/// The attribute that a segment costs: a name, or null for none.
+pub(crate) struct Weight;
+
+impl Form for Weight {
+    ghost use Rattle.un_json.specs.Forms.{weight_of};
+
+    type Out = Option<Name>;
+
+    ghost form = { weight_of };
+
+    fn read(alloc: Global, value: &Value) -> Result<Option<Option<Name>>, AllocError> {
+        if value.is_null() {
+            return Ok(Some(None));
+        }
+        SomeName::read(alloc, value)
     }
 }
 

@@ -4,7 +4,10 @@ use std::alloc::{AllocError, Global};
 use un_json::{ReadFault, read_request};
 
 mod commands;
+mod diagrams;
 mod edits;
+mod pasts;
+mod paths;
 mod queries;
 mod texts;
 mod traces;

@@ -1,15 +1,23 @@
 -- The texts of the replies of commands, put together of their members.
-use Rattle.std.proofs.Common.{◌≡◌, ℕ, List, [], ◌∷◌, ◌++◌, codes, Option, ap, ◌∙◌, append_assoc, append-nil}
+use Rattle.std.proofs.Common.{◌≡◌, ℕ, List, [], ◌∷◌, ◌++◌, codes, Option, refl, ap, ◌∙◌, append_assoc, append-nil}
 use Rattle.json.specs.Print.{quoted}
 use Rattle.serde_json.specs.Data.{Data, string, object, member, no_members}
 use Rattle.serde_json.specs.Written.{compact_text}
+use Rattle.serde_json.proofs.OnLiterals.{serde_json_on_literals}
 use Rattle.un_ask.specs.Words.{edit_text}
 use Rattle.un_ask.specs.declared.word.EditWord.{EditWord}
 use Rattle.un_ask.specs.declared.stored.StoredSubnet.{StoredSubnet}
 use Rattle.un_ask.specs.declared.reply.Reply.TheVariants as reply
 use Rattle.un_replies.specs.Values.{count, counts}
 use Rattle.un_replies.specs.Pieces.{following, opening}
-use Rattle.un_replies.specs.Replies.{reply_value, stored_members, stored_status}
+use Rattle.un_replies.specs.Replies.{past_around, PastAroundLaw, reply_value, stored_members, stored_status}
+use Rattle.un_replies.proofs.RefusalTexts.{piece}
+
+-- a member and what comes behind it
+one_member : (q : List ℕ × Data) (rest : List ℕ) → following (q ∷ []) ++ rest ≡ 44 ∷ (quoted q.0 ++ 58 ∷ (compact_text q.1 ++ rest))
+one_member q rest =
+    ap (λ t. 44 ∷ t) (append_assoc (quoted q.0) (58 ∷ (compact_text q.1 ++ [])) rest)
+    ∙ ap (λ t. 44 ∷ (quoted q.0 ++ 58 ∷ (t ++ rest))) (append-nil (compact_text q.1))
 
 -- four members, one after the other
 four_steps : (start a b c d e : List ℕ) (m n o p : List ℕ × Data)
@@ -26,11 +34,6 @@ four_steps start a b c d e m n o p one two three four five =
     ∙ append_assoc start (opening m) (second ++ (third ++ (fourth ++ codes "}")))
     ∙ ap (λ t. start ++ t) joined
   where
-    one_member : (q : List ℕ × Data) (rest : List ℕ) → following (q ∷ []) ++ rest ≡ 44 ∷ (quoted q.0 ++ 58 ∷ (compact_text q.1 ++ rest))
-    one_member q rest =
-        ap (λ t. 44 ∷ t) (append_assoc (quoted q.0) (58 ∷ (compact_text q.1 ++ [])) rest)
-        ∙ ap (λ t. 44 ∷ (quoted q.0 ++ 58 ∷ (t ++ rest))) (append-nil (compact_text q.1))
-
     first_member : (q : List ℕ × Data) (rest : List ℕ) → opening q ++ rest ≡ 123 ∷ (quoted q.0 ++ 58 ∷ (compact_text q.1 ++ rest))
     first_member q rest = ap (λ t. 123 ∷ t) (append_assoc (quoted q.0) (58 ∷ compact_text q.1) rest)
 
@@ -80,3 +83,17 @@ pub updated_steps : (row : Option StoredSubnet) (version members : ℕ) (text st
 updated_steps row version members text start a b c d e counted same one two three four five =
     four_steps start a b c d e (codes "members", count (stored_members row)) (codes "ok", string (codes "update")) (codes "status", string (stored_status row)) (codes "version", count version)
     (one ∙ ap (λ n. start ++ opening (codes "members", count n)) counted) two (three ∙ ap (λ t. b ++ following ((codes "status", string t) ∷ [])) same) four five
+
+-- what is told of a past version stands round the reply at that version
+pub past_steps : (version : ℕ) (inner start a b c d : List ℕ)
+    → a ≡ start ++ codes "{\"ok\":\"past\",\"past\":" → b ≡ a ++ inner → c ≡ b ++ following ((codes "version", count version) ∷ []) → d ≡ c ++ codes "}"
+    → d ≡ start ++ past_around inner version
+unfolding serde_json_on_literals
+past_steps version inner start a b c d one two three four =
+    let opened = codes "{\"ok\":\"past\",\"past\":" in
+    piece start a d _ _ one (piece a b d _ _ two (piece b c d _ _ three four))
+    ∙ ap (λ t. start ++ (opened ++ (inner ++ t))) (one_member (codes "version", count version) (codes "}"))
+
+pub past_stands_around : PastAroundLaw
+unfolding serde_json_on_literals
+past_stands_around past version = refl

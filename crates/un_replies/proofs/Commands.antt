@@ -1,5 +1,5 @@
 -- What holds of the replies of commands.
-use Rattle.std.proofs.Common.{◌≡◌, ◌≢◌, ℕ, ◌≤◌, List, Option, refl, arith}
+use Rattle.std.proofs.Common.{◌≡◌, ◌≢◌, ℕ, ◌≤◌, Bool, List, Option, refl, arith}
 use Rattle.un_geom.specs.declared.point.Point.{Point}
 use Rattle.un_geom.specs.Rectangle.{Rectangle}
 use Rattle.un_defs.specs.declared.port.Port.{Port}
@@ -9,6 +9,9 @@ use Rattle.un_defs.specs.declared.refusal.Refusal.{Refusal}
 use Rattle.un_ask.specs.declared.stored.Status.{Status}
 use Rattle.un_ask.specs.declared.results.Part.{Part}
 use Rattle.un_ask.specs.declared.results.Segment.{Segment}
+use Rattle.un_ask.specs.declared.results.Label.{Label}
+use Rattle.un_ask.specs.declared.results.Piece.{Piece}
+use Rattle.un_ask.specs.declared.results.Edge.{Edge}
 use Rattle.un_ask.specs.declared.reply.FeatureReply.{FeatureReply}
 use Rattle.un_ask.specs.declared.reply.ResultReply.{ResultReply}
 use Rattle.un_ask.specs.declared.word.EditWord.{EditWord}
@@ -40,6 +43,9 @@ other_reply (reply.Traced traced version) command h0 h1 h2 h3 h4 h5 = absurd com
 other_reply (reply.Controllers controllers version) command h0 h1 h2 h3 h4 h5 = absurd command
 other_reply (reply.Loops segments version) command h0 h1 h2 h3 h4 h5 = absurd command
 other_reply (reply.Isolation borders features version) command h0 h1 h2 h3 h4 h5 = absurd command
+other_reply (reply.Path cost labels nodes version) command h0 h1 h2 h3 h4 h5 = absurd command
+other_reply (reply.Check valid version) command h0 h1 h2 h3 h4 h5 = absurd command
+other_reply (reply.Diagram edges kept pieces version) command h0 h1 h2 h3 h4 h5 = absurd command
 other_reply (reply.Refused refusal edit version) command h0 h1 h2 h3 h4 h5 = h5 refusal edit version refl
 
 -- a reply that is none of these is not one of a query
@@ -53,22 +59,28 @@ pub other_query : (r : Reply) → ¬ IsOfCommand r
     → ((controllers : List Controller) (version : ℕ) → r ≢ reply.Controllers controllers version)
     → ((segments : List Segment) (version : ℕ) → r ≢ reply.Loops segments version)
     → ((borders : List Port) (features : List Part) (version : ℕ) → r ≢ reply.Isolation borders features version)
+    → ((cost : Option ℕ) (labels : List Label) (nodes : List Port) (version : ℕ) → r ≢ reply.Path cost labels nodes version)
+    → ((valid : Bool) (version : ℕ) → r ≢ reply.Check valid version)
+    → ((edges : List Edge) (kept : List Port) (pieces : List Piece) (version : ℕ) → r ≢ reply.Diagram edges kept pieces version)
     → ⊥
-other_query (reply.Edited areas id word version) query h0 h1 h2 h3 h4 h5 h6 h7 h8 = absurd (query tt)
-other_query (reply.Batch areas ids version) query h0 h1 h2 h3 h4 h5 h6 h7 h8 = absurd (query tt)
-other_query (reply.Ruled areas rules version) query h0 h1 h2 h3 h4 h5 h6 h7 h8 = absurd (query tt)
-other_query (reply.Validated cleared errors version) query h0 h1 h2 h3 h4 h5 h6 h7 h8 = absurd (query tt)
-other_query (reply.Updated row version) query h0 h1 h2 h3 h4 h5 h6 h7 h8 = absurd (query tt)
-other_query (reply.Version version) query h0 h1 h2 h3 h4 h5 h6 h7 h8 = h0 version refl
-other_query (reply.Feature feature version) query h0 h1 h2 h3 h4 h5 h6 h7 h8 = h1 feature version refl
-other_query (reply.Dirty areas version) query h0 h1 h2 h3 h4 h5 h6 h7 h8 = h2 areas version refl
-other_query (reply.Errors errors version) query h0 h1 h2 h3 h4 h5 h6 h7 h8 = h3 errors version refl
-other_query (reply.Subnet controllers members status subnet tier updated version) query h0 h1 h2 h3 h4 h5 h6 h7 h8 = h4 controllers members status subnet tier updated version refl
-other_query (reply.Traced traced version) query h0 h1 h2 h3 h4 h5 h6 h7 h8 = h5 traced version refl
-other_query (reply.Controllers controllers version) query h0 h1 h2 h3 h4 h5 h6 h7 h8 = h6 controllers version refl
-other_query (reply.Loops segments version) query h0 h1 h2 h3 h4 h5 h6 h7 h8 = h7 segments version refl
-other_query (reply.Isolation borders features version) query h0 h1 h2 h3 h4 h5 h6 h7 h8 = h8 borders features version refl
-other_query (reply.Refused refusal edit version) query h0 h1 h2 h3 h4 h5 h6 h7 h8 = absurd (query tt)
+other_query (reply.Edited areas id word version) query h0 h1 h2 h3 h4 h5 h6 h7 h8 h9 h10 h11 = absurd (query tt)
+other_query (reply.Batch areas ids version) query h0 h1 h2 h3 h4 h5 h6 h7 h8 h9 h10 h11 = absurd (query tt)
+other_query (reply.Ruled areas rules version) query h0 h1 h2 h3 h4 h5 h6 h7 h8 h9 h10 h11 = absurd (query tt)
+other_query (reply.Validated cleared errors version) query h0 h1 h2 h3 h4 h5 h6 h7 h8 h9 h10 h11 = absurd (query tt)
+other_query (reply.Updated row version) query h0 h1 h2 h3 h4 h5 h6 h7 h8 h9 h10 h11 = absurd (query tt)
+other_query (reply.Version version) query h0 h1 h2 h3 h4 h5 h6 h7 h8 h9 h10 h11 = h0 version refl
+other_query (reply.Feature feature version) query h0 h1 h2 h3 h4 h5 h6 h7 h8 h9 h10 h11 = h1 feature version refl
+other_query (reply.Dirty areas version) query h0 h1 h2 h3 h4 h5 h6 h7 h8 h9 h10 h11 = h2 areas version refl
+other_query (reply.Errors errors version) query h0 h1 h2 h3 h4 h5 h6 h7 h8 h9 h10 h11 = h3 errors version refl
+other_query (reply.Subnet controllers members status subnet tier updated version) query h0 h1 h2 h3 h4 h5 h6 h7 h8 h9 h10 h11 = h4 controllers members status subnet tier updated version refl
+other_query (reply.Traced traced version) query h0 h1 h2 h3 h4 h5 h6 h7 h8 h9 h10 h11 = h5 traced version refl
+other_query (reply.Controllers controllers version) query h0 h1 h2 h3 h4 h5 h6 h7 h8 h9 h10 h11 = h6 controllers version refl
+other_query (reply.Loops segments version) query h0 h1 h2 h3 h4 h5 h6 h7 h8 h9 h10 h11 = h7 segments version refl
+other_query (reply.Isolation borders features version) query h0 h1 h2 h3 h4 h5 h6 h7 h8 h9 h10 h11 = h8 borders features version refl
+other_query (reply.Path cost labels nodes version) query h0 h1 h2 h3 h4 h5 h6 h7 h8 h9 h10 h11 = h9 cost labels nodes version refl
+other_query (reply.Check valid version) query h0 h1 h2 h3 h4 h5 h6 h7 h8 h9 h10 h11 = h10 valid version refl
+other_query (reply.Diagram edges kept pieces version) query h0 h1 h2 h3 h4 h5 h6 h7 h8 h9 h10 h11 = h11 edges kept pieces version refl
+other_query (reply.Refused refusal edit version) query h0 h1 h2 h3 h4 h5 h6 h7 h8 h9 h10 h11 = absurd (query tt)
 
 -- 256 ids and what stands round them fit in the room of a command's reply
 pub few_fit : (r : Reply) → HasFewIds r → command_room r ≤ 5504
@@ -86,6 +98,9 @@ few_fit (reply.Traced traced version) few = omega arith
 few_fit (reply.Controllers controllers version) few = omega arith
 few_fit (reply.Loops segments version) few = omega arith
 few_fit (reply.Isolation borders features version) few = omega arith
+few_fit (reply.Path cost labels nodes version) few = omega arith
+few_fit (reply.Check valid version) few = omega arith
+few_fit (reply.Diagram edges kept pieces version) few = omega arith
 few_fit (reply.Refused refusal edit version) few = omega arith
 
 -- any reply but a batch is short
@@ -104,4 +119,7 @@ room_of_other (reply.Traced traced version) other = refl
 room_of_other (reply.Controllers controllers version) other = refl
 room_of_other (reply.Loops segments version) other = refl
 room_of_other (reply.Isolation borders features version) other = refl
+room_of_other (reply.Path cost labels nodes version) other = refl
+room_of_other (reply.Check valid version) other = refl
+room_of_other (reply.Diagram edges kept pieces version) other = refl
 room_of_other (reply.Refused refusal edit version) other = refl

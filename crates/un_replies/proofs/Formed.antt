@@ -1,5 +1,5 @@
 -- The form of the values that replies have: whole numbers, members that rise, and a few levels.
-use Rattle.std.proofs.Common.{◌≡◌, ℕ, suc, ◌≤◌, ℤ, pos, negsuc, List, [], ◌∷◌, ◌++◌, Ordering, Less, Equal, Greater, refl, ap, ◌∙◌, arith, nat_cmp}
+use Rattle.std.proofs.Common.{◌≡◌, ℕ, suc, ◌≤◌, ℤ, pos, negsuc, Bool, List, [], ◌∷◌, ◌++◌, Ordering, Less, Equal, Greater, refl, ap, ◌∙◌, arith, nat_cmp}
 use Rattle.std.proofs.lemmas.Cmp.{nat_list_cmp_total}
 use Rattle.std.specs.Prelude.{⊤}
 use Rattle.std.specs.Cmp.Lexicographic.{slice_cmp}
@@ -90,8 +90,15 @@ pub of_whole : (n : ℕ) (z : ℤ) → IsFormedTo n (whole z)
 of_whole n (pos x) = record { formed = tt; shallow = omega arith }
 of_whole n (negsuc x) = record { formed = tt; shallow = omega arith }
 
+pub of_truth : (n : ℕ) (b : Bool) → IsFormedTo n (boolean b)
+of_truth n b = record { formed = tt; shallow = omega arith }
+
 pub of_text : (n : ℕ) (s : List ℕ) → IsFormedTo n (string s)
 of_text n s = record { formed = tt; shallow = omega arith }
+
+-- a bound on the levels may be raised
+pub of_less : (n m : ℕ) (d : Data) → n ≤ m → IsFormedTo n d → IsFormedTo m d
+of_less n m d l h = record { formed = h.formed; shallow = omega (arith, h.shallow) }
 
 abbrev pub AreFormedTo : ℕ → List Data → Type 0
 AreFormedTo n [] = ⊤

@@ -9,17 +9,20 @@ use Rattle.un_defs.specs.declared.refusal.Refusal.{Refusal}
 use Rattle.un_defs.specs.declared.refusal.Refusal.TheVariants as refusal
 use Rattle.un_ask.specs.declared.results.Part.{Part}
 use Rattle.un_ask.specs.declared.results.Segment.{Segment}
+use Rattle.un_ask.specs.declared.results.Label.{Label}
+use Rattle.un_ask.specs.declared.results.Piece.{Piece}
+use Rattle.un_ask.specs.declared.results.Edge.{Edge}
 use Rattle.un_ask.specs.declared.reply.FeatureReply.{FeatureReply}
 use Rattle.un_ask.specs.declared.reply.ResultReply.{ResultReply}
 use Rattle.un_ask.specs.declared.reply.Reply.{Reply}
 use Rattle.un_ask.specs.declared.reply.Reply.TheVariants as reply
-use Rattle.serde_json.specs.Data.{string}
+use Rattle.serde_json.specs.Data.{boolean, string}
 use Rattle.un_replies.specs.Values.{count, counts, whole, list, object_of}
 use Rattle.std.proofs.Common.{map}
 use Rattle.un_replies.specs.Refusals.{RefusalFields, fields_of, edit_member, version_member, has_version, fields_value, refusal_value}
 use Rattle.un_ask.specs.Words.{edit_text, trace_text}
-use Rattle.un_replies.specs.Replies.{error_text, flow_text, stored_members, stored_status, status_text, path_text, point, port, area, placed_error, part, segment, controller, total, attribute, feature_value, result_value, reply_value}
-use Rattle.un_replies.proofs.Formed.{IsFormedTo, HasFormed, HasFormed-append, of_count, of_whole, of_text, of_tuple, of_list, of_counts, of_object}
+use Rattle.un_replies.specs.Replies.{error_text, flow_text, stored_members, stored_status, status_text, path_text, point, port, area, placed_error, part, segment, controller, total, cost, label, piece, edge, attribute, feature_value, result_value, reply_value, past_value}
+use Rattle.un_replies.proofs.Formed.{IsFormedTo, HasFormed, HasFormed-append, of_count, of_whole, of_truth, of_text, of_tuple, of_list, of_counts, of_object}
 
 -- ---- parts
 
@@ -49,6 +52,19 @@ of_controller c = of_tuple 1 (count c.port.feature ∷ count c.port.number ∷ s
 of_total : (t : Option ℤ) → IsFormedTo 2 (total t)
 of_total None = record { formed = tt; shallow = omega arith }
 of_total (Some z) = of_whole 2 z
+
+of_cost : (c : Option ℕ) → IsFormedTo 3 (cost c)
+of_cost None = record { formed = tt; shallow = omega arith }
+of_cost (Some n) = of_count 3 n
+
+of_label : (l : Label) → IsFormedTo 2 (label l)
+of_label l = of_tuple 1 (count l.port.feature ∷ count l.port.number ∷ count l.cost ∷ []) (of_count 1 l.port.feature, (of_count 1 l.port.number, (of_count 1 l.cost, tt)))
+
+of_piece : (p : Piece) → IsFormedTo 2 (piece p)
+of_piece p = of_tuple 1 (count p.name.feature ∷ count p.name.number ∷ count p.nodes ∷ count p.features ∷ []) (of_count 1 p.name.feature, (of_count 1 p.name.number, (of_count 1 p.nodes, (of_count 1 p.features, tt))))
+
+of_edge : (e : Edge) → IsFormedTo 2 (edge e)
+of_edge e = of_tuple 1 (count e.from.feature ∷ count e.from.number ∷ count e.to.feature ∷ count e.to.number ∷ []) (of_count 1 e.from.feature, (of_count 1 e.from.number, (of_count 1 e.to.feature, (of_count 1 e.to.number, tt))))
 
 of_attributes : (pairs : List (List ℕ × ℤ)) → HasFormed 2 (map attribute pairs)
 of_attributes [] = tt
@@ -102,6 +118,8 @@ of_refusal (refusal.DirtyGround area feature port) edit version = of_fields (fie
 of_refusal (refusal.NotIsolable feature terminal) edit version = of_fields (fields_of (refusal.NotIsolable feature terminal)) edit version (of_count 3 _, (of_count 3 _, tt))
 of_refusal (refusal.BadRuleTerminal place) edit version = of_fields (fields_of (refusal.BadRuleTerminal place)) edit version (of_count 3 _, tt)
 of_refusal (refusal.RuleExists place) edit version = of_fields (fields_of (refusal.RuleExists place)) edit version (of_count 3 _, tt)
+of_refusal (refusal.NotYet at latest) edit version = of_fields (fields_of (refusal.NotYet at latest)) edit version (of_count 3 _, (of_count 3 _, tt))
+of_refusal refusal.ServeOnly edit version = of_fields (fields_of refusal.ServeOnly) edit version tt
 of_refusal refusal.Memory edit version = record { formed = (tt, (tt, tt)); shallow = omega arith }
 
 -- ---- replies
@@ -155,4 +173,19 @@ of_reply (reply.Loops segments version) = of_object 3
 of_reply (reply.Isolation borders features version) = of_object 3
     ((codes "borders", list port borders) ∷ (codes "features", list part features) ∷ (codes "ok", string (codes "isolation")) ∷ (codes "version", count version) ∷ [])
     (of_list 2 port of_port borders, (of_list 2 part of_part features, (of_text 3 _, (of_count 3 _, tt))))
+of_reply (reply.Path walk_cost labels nodes version) = of_object 3
+    ((codes "cost", cost walk_cost) ∷ (codes "labels", list label labels) ∷ (codes "nodes", list port nodes) ∷ (codes "ok", string (codes "path")) ∷ (codes "version", count version) ∷ [])
+    (of_cost walk_cost, (of_list 2 label of_label labels, (of_list 2 port of_port nodes, (of_text 3 _, (of_count 3 _, tt)))))
+of_reply (reply.Check valid version) = of_object 3
+    ((codes "ok", string (codes "check")) ∷ (codes "valid", boolean valid) ∷ (codes "version", count version) ∷ [])
+    (of_text 3 _, (of_truth 3 valid, (of_count 3 _, tt)))
+of_reply (reply.Diagram edges kept pieces version) = of_object 3
+    ((codes "edges", list edge edges) ∷ (codes "kept", list port kept) ∷ (codes "ok", string (codes "diagram")) ∷ (codes "pieces", list piece pieces) ∷ (codes "version", count version) ∷ [])
+    (of_list 2 edge of_edge edges, (of_list 2 port of_port kept, (of_text 3 _, (of_list 2 piece of_piece pieces, (of_count 3 _, tt)))))
 of_reply (reply.Refused refusal edit version) = of_refusal refusal edit version
+
+-- the reply to a query at a past version has one level more
+pub of_past : (past : Reply) (version : ℕ) → IsFormedTo 5 (past_value past version)
+of_past past version = of_object 4
+    ((codes "ok", string (codes "past")) ∷ (codes "past", reply_value past) ∷ (codes "version", count version) ∷ [])
+    (of_text 4 _, (of_reply past, (of_count 4 _, tt)))

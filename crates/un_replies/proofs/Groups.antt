@@ -15,41 +15,44 @@ pub early_none : (r : Refusal)
     → ((attribute : List ℕ) → r ≢ (refusal.BadAttribute attribute))
     → ((by : ℕ) → r ≢ (refusal.AlreadyContained by))
     → ((area : ℕ) (feature : ℕ) (port : ℕ) → r ≢ (refusal.DirtyGround area feature port))
+    → ((at : ℕ) (latest : ℕ) → r ≢ (refusal.NotYet at latest))
     → early r ≡ []
-early_none refusal.NotJson h0 h1 h2 h3 = refl
-early_none (refusal.BadRequest place) h0 h1 h2 h3 = refl
-early_none refusal.LineTooLong h0 h1 h2 h3 = refl
-early_none (refusal.BadSchema place) h0 h1 h2 h3 = refl
-early_none (refusal.NoSuchFeature id) h0 h1 h2 h3 = refl
-early_none (refusal.Moved at) h0 h1 h2 h3 = absurd (h0 at refl)
-early_none (refusal.BadShape place) h0 h1 h2 h3 = refl
-early_none (refusal.NoSuchKind kind) h0 h1 h2 h3 = refl
-early_none (refusal.BadAttribute attribute) h0 h1 h2 h3 = absurd (h1 attribute refl)
-early_none (refusal.BadTerminal feature) h0 h1 h2 h3 = refl
-early_none refusal.BadPath h0 h1 h2 h3 = refl
-early_none (refusal.HasAssociations least) h0 h1 h2 h3 = refl
-early_none refusal.HasControllers h0 h1 h2 h3 = refl
-early_none refusal.NoSuchAssociation h0 h1 h2 h3 = refl
-early_none refusal.WrongKind h0 h1 h2 h3 = refl
-early_none (refusal.AlreadyContained by) h0 h1 h2 h3 = absurd (h2 by refl)
-early_none refusal.ContainsItself h0 h1 h2 h3 = refl
-early_none refusal.NoSuchTier h0 h1 h2 h3 = refl
-early_none refusal.NotController h0 h1 h2 h3 = refl
-early_none refusal.ControllerExists h0 h1 h2 h3 = refl
-early_none refusal.NoSuchController h0 h1 h2 h3 = refl
-early_none refusal.NoSuchSubnetwork h0 h1 h2 h3 = refl
-early_none (refusal.Conflict subnet feature port) h0 h1 h2 h3 = refl
-early_none (refusal.Disjoint feature port) h0 h1 h2 h3 = refl
-early_none (refusal.Full what) h0 h1 h2 h3 = refl
-early_none (refusal.Ahead seen latest) h0 h1 h2 h3 = refl
-early_none (refusal.NoStart feature port) h0 h1 h2 h3 = refl
-early_none (refusal.StartIsValve feature terminal) h0 h1 h2 h3 = refl
-early_none (refusal.BadCondition place) h0 h1 h2 h3 = refl
-early_none (refusal.DirtyGround area feature port) h0 h1 h2 h3 = absurd (h3 area feature port refl)
-early_none (refusal.NotIsolable feature terminal) h0 h1 h2 h3 = refl
-early_none (refusal.BadRuleTerminal place) h0 h1 h2 h3 = refl
-early_none (refusal.RuleExists place) h0 h1 h2 h3 = refl
-early_none refusal.Memory h0 h1 h2 h3 = refl
+early_none refusal.NotJson h0 h1 h2 h3 h4 = refl
+early_none (refusal.BadRequest place) h0 h1 h2 h3 h4 = refl
+early_none refusal.LineTooLong h0 h1 h2 h3 h4 = refl
+early_none (refusal.BadSchema place) h0 h1 h2 h3 h4 = refl
+early_none (refusal.NoSuchFeature id) h0 h1 h2 h3 h4 = refl
+early_none (refusal.Moved at) h0 h1 h2 h3 h4 = absurd (h0 at refl)
+early_none (refusal.BadShape place) h0 h1 h2 h3 h4 = refl
+early_none (refusal.NoSuchKind kind) h0 h1 h2 h3 h4 = refl
+early_none (refusal.BadAttribute attribute) h0 h1 h2 h3 h4 = absurd (h1 attribute refl)
+early_none (refusal.BadTerminal feature) h0 h1 h2 h3 h4 = refl
+early_none refusal.BadPath h0 h1 h2 h3 h4 = refl
+early_none (refusal.HasAssociations least) h0 h1 h2 h3 h4 = refl
+early_none refusal.HasControllers h0 h1 h2 h3 h4 = refl
+early_none refusal.NoSuchAssociation h0 h1 h2 h3 h4 = refl
+early_none refusal.WrongKind h0 h1 h2 h3 h4 = refl
+early_none (refusal.AlreadyContained by) h0 h1 h2 h3 h4 = absurd (h2 by refl)
+early_none refusal.ContainsItself h0 h1 h2 h3 h4 = refl
+early_none refusal.NoSuchTier h0 h1 h2 h3 h4 = refl
+early_none refusal.NotController h0 h1 h2 h3 h4 = refl
+early_none refusal.ControllerExists h0 h1 h2 h3 h4 = refl
+early_none refusal.NoSuchController h0 h1 h2 h3 h4 = refl
+early_none refusal.NoSuchSubnetwork h0 h1 h2 h3 h4 = refl
+early_none (refusal.Conflict subnet feature port) h0 h1 h2 h3 h4 = refl
+early_none (refusal.Disjoint feature port) h0 h1 h2 h3 h4 = refl
+early_none (refusal.Full what) h0 h1 h2 h3 h4 = refl
+early_none (refusal.Ahead seen latest) h0 h1 h2 h3 h4 = refl
+early_none (refusal.NoStart feature port) h0 h1 h2 h3 h4 = refl
+early_none (refusal.StartIsValve feature terminal) h0 h1 h2 h3 h4 = refl
+early_none (refusal.BadCondition place) h0 h1 h2 h3 h4 = refl
+early_none (refusal.DirtyGround area feature port) h0 h1 h2 h3 h4 = absurd (h3 area feature port refl)
+early_none (refusal.NotIsolable feature terminal) h0 h1 h2 h3 h4 = refl
+early_none (refusal.BadRuleTerminal place) h0 h1 h2 h3 h4 = refl
+early_none (refusal.RuleExists place) h0 h1 h2 h3 h4 = refl
+early_none (refusal.NotYet at latest) h0 h1 h2 h3 h4 = absurd (h4 at latest refl)
+early_none refusal.ServeOnly h0 h1 h2 h3 h4 = refl
+early_none refusal.Memory h0 h1 h2 h3 h4 = refl
 
 -- no other refusal carries anything there
 pub middle_none : (r : Refusal)
@@ -64,41 +67,44 @@ pub middle_none : (r : Refusal)
     → ((feature : ℕ) (terminal : ℕ) → r ≢ (refusal.StartIsValve feature terminal))
     → ((area : ℕ) (feature : ℕ) (port : ℕ) → r ≢ (refusal.DirtyGround area feature port))
     → ((feature : ℕ) (terminal : ℕ) → r ≢ (refusal.NotIsolable feature terminal))
+    → ((at : ℕ) (latest : ℕ) → r ≢ (refusal.NotYet at latest))
     → middle r ≡ []
-middle_none refusal.NotJson h0 h1 h2 h3 h4 h5 h6 h7 h8 h9 h10 = refl
-middle_none (refusal.BadRequest place) h0 h1 h2 h3 h4 h5 h6 h7 h8 h9 h10 = refl
-middle_none refusal.LineTooLong h0 h1 h2 h3 h4 h5 h6 h7 h8 h9 h10 = refl
-middle_none (refusal.BadSchema place) h0 h1 h2 h3 h4 h5 h6 h7 h8 h9 h10 = refl
-middle_none (refusal.NoSuchFeature id) h0 h1 h2 h3 h4 h5 h6 h7 h8 h9 h10 = absurd (h0 id refl)
-middle_none (refusal.Moved at) h0 h1 h2 h3 h4 h5 h6 h7 h8 h9 h10 = refl
-middle_none (refusal.BadShape place) h0 h1 h2 h3 h4 h5 h6 h7 h8 h9 h10 = refl
-middle_none (refusal.NoSuchKind kind) h0 h1 h2 h3 h4 h5 h6 h7 h8 h9 h10 = absurd (h1 kind refl)
-middle_none (refusal.BadAttribute attribute) h0 h1 h2 h3 h4 h5 h6 h7 h8 h9 h10 = refl
-middle_none (refusal.BadTerminal feature) h0 h1 h2 h3 h4 h5 h6 h7 h8 h9 h10 = absurd (h2 feature refl)
-middle_none refusal.BadPath h0 h1 h2 h3 h4 h5 h6 h7 h8 h9 h10 = refl
-middle_none (refusal.HasAssociations least) h0 h1 h2 h3 h4 h5 h6 h7 h8 h9 h10 = absurd (h3 least refl)
-middle_none refusal.HasControllers h0 h1 h2 h3 h4 h5 h6 h7 h8 h9 h10 = refl
-middle_none refusal.NoSuchAssociation h0 h1 h2 h3 h4 h5 h6 h7 h8 h9 h10 = refl
-middle_none refusal.WrongKind h0 h1 h2 h3 h4 h5 h6 h7 h8 h9 h10 = refl
-middle_none (refusal.AlreadyContained by) h0 h1 h2 h3 h4 h5 h6 h7 h8 h9 h10 = refl
-middle_none refusal.ContainsItself h0 h1 h2 h3 h4 h5 h6 h7 h8 h9 h10 = refl
-middle_none refusal.NoSuchTier h0 h1 h2 h3 h4 h5 h6 h7 h8 h9 h10 = refl
-middle_none refusal.NotController h0 h1 h2 h3 h4 h5 h6 h7 h8 h9 h10 = refl
-middle_none refusal.ControllerExists h0 h1 h2 h3 h4 h5 h6 h7 h8 h9 h10 = refl
-middle_none refusal.NoSuchController h0 h1 h2 h3 h4 h5 h6 h7 h8 h9 h10 = refl
-middle_none refusal.NoSuchSubnetwork h0 h1 h2 h3 h4 h5 h6 h7 h8 h9 h10 = refl
-middle_none (refusal.Conflict subnet feature port) h0 h1 h2 h3 h4 h5 h6 h7 h8 h9 h10 = absurd (h4 subnet feature port refl)
-middle_none (refusal.Disjoint feature port) h0 h1 h2 h3 h4 h5 h6 h7 h8 h9 h10 = absurd (h5 feature port refl)
-middle_none (refusal.Full what) h0 h1 h2 h3 h4 h5 h6 h7 h8 h9 h10 = refl
-middle_none (refusal.Ahead seen latest) h0 h1 h2 h3 h4 h5 h6 h7 h8 h9 h10 = absurd (h6 seen latest refl)
-middle_none (refusal.NoStart feature port) h0 h1 h2 h3 h4 h5 h6 h7 h8 h9 h10 = absurd (h7 feature port refl)
-middle_none (refusal.StartIsValve feature terminal) h0 h1 h2 h3 h4 h5 h6 h7 h8 h9 h10 = absurd (h8 feature terminal refl)
-middle_none (refusal.BadCondition place) h0 h1 h2 h3 h4 h5 h6 h7 h8 h9 h10 = refl
-middle_none (refusal.DirtyGround area feature port) h0 h1 h2 h3 h4 h5 h6 h7 h8 h9 h10 = absurd (h9 area feature port refl)
-middle_none (refusal.NotIsolable feature terminal) h0 h1 h2 h3 h4 h5 h6 h7 h8 h9 h10 = absurd (h10 feature terminal refl)
-middle_none (refusal.BadRuleTerminal place) h0 h1 h2 h3 h4 h5 h6 h7 h8 h9 h10 = refl
-middle_none (refusal.RuleExists place) h0 h1 h2 h3 h4 h5 h6 h7 h8 h9 h10 = refl
-middle_none refusal.Memory h0 h1 h2 h3 h4 h5 h6 h7 h8 h9 h10 = refl
+middle_none refusal.NotJson h0 h1 h2 h3 h4 h5 h6 h7 h8 h9 h10 h11 = refl
+middle_none (refusal.BadRequest place) h0 h1 h2 h3 h4 h5 h6 h7 h8 h9 h10 h11 = refl
+middle_none refusal.LineTooLong h0 h1 h2 h3 h4 h5 h6 h7 h8 h9 h10 h11 = refl
+middle_none (refusal.BadSchema place) h0 h1 h2 h3 h4 h5 h6 h7 h8 h9 h10 h11 = refl
+middle_none (refusal.NoSuchFeature id) h0 h1 h2 h3 h4 h5 h6 h7 h8 h9 h10 h11 = absurd (h0 id refl)
+middle_none (refusal.Moved at) h0 h1 h2 h3 h4 h5 h6 h7 h8 h9 h10 h11 = refl
+middle_none (refusal.BadShape place) h0 h1 h2 h3 h4 h5 h6 h7 h8 h9 h10 h11 = refl
+middle_none (refusal.NoSuchKind kind) h0 h1 h2 h3 h4 h5 h6 h7 h8 h9 h10 h11 = absurd (h1 kind refl)
+middle_none (refusal.BadAttribute attribute) h0 h1 h2 h3 h4 h5 h6 h7 h8 h9 h10 h11 = refl
+middle_none (refusal.BadTerminal feature) h0 h1 h2 h3 h4 h5 h6 h7 h8 h9 h10 h11 = absurd (h2 feature refl)
+middle_none refusal.BadPath h0 h1 h2 h3 h4 h5 h6 h7 h8 h9 h10 h11 = refl
+middle_none (refusal.HasAssociations least) h0 h1 h2 h3 h4 h5 h6 h7 h8 h9 h10 h11 = absurd (h3 least refl)
+middle_none refusal.HasControllers h0 h1 h2 h3 h4 h5 h6 h7 h8 h9 h10 h11 = refl
+middle_none refusal.NoSuchAssociation h0 h1 h2 h3 h4 h5 h6 h7 h8 h9 h10 h11 = refl
+middle_none refusal.WrongKind h0 h1 h2 h3 h4 h5 h6 h7 h8 h9 h10 h11 = refl
+middle_none (refusal.AlreadyContained by) h0 h1 h2 h3 h4 h5 h6 h7 h8 h9 h10 h11 = refl
+middle_none refusal.ContainsItself h0 h1 h2 h3 h4 h5 h6 h7 h8 h9 h10 h11 = refl
+middle_none refusal.NoSuchTier h0 h1 h2 h3 h4 h5 h6 h7 h8 h9 h10 h11 = refl
+middle_none refusal.NotController h0 h1 h2 h3 h4 h5 h6 h7 h8 h9 h10 h11 = refl
+middle_none refusal.ControllerExists h0 h1 h2 h3 h4 h5 h6 h7 h8 h9 h10 h11 = refl
+middle_none refusal.NoSuchController h0 h1 h2 h3 h4 h5 h6 h7 h8 h9 h10 h11 = refl
+middle_none refusal.NoSuchSubnetwork h0 h1 h2 h3 h4 h5 h6 h7 h8 h9 h10 h11 = refl
+middle_none (refusal.Conflict subnet feature port) h0 h1 h2 h3 h4 h5 h6 h7 h8 h9 h10 h11 = absurd (h4 subnet feature port refl)
+middle_none (refusal.Disjoint feature port) h0 h1 h2 h3 h4 h5 h6 h7 h8 h9 h10 h11 = absurd (h5 feature port refl)
+middle_none (refusal.Full what) h0 h1 h2 h3 h4 h5 h6 h7 h8 h9 h10 h11 = refl
+middle_none (refusal.Ahead seen latest) h0 h1 h2 h3 h4 h5 h6 h7 h8 h9 h10 h11 = absurd (h6 seen latest refl)
+middle_none (refusal.NoStart feature port) h0 h1 h2 h3 h4 h5 h6 h7 h8 h9 h10 h11 = absurd (h7 feature port refl)
+middle_none (refusal.StartIsValve feature terminal) h0 h1 h2 h3 h4 h5 h6 h7 h8 h9 h10 h11 = absurd (h8 feature terminal refl)
+middle_none (refusal.BadCondition place) h0 h1 h2 h3 h4 h5 h6 h7 h8 h9 h10 h11 = refl
+middle_none (refusal.DirtyGround area feature port) h0 h1 h2 h3 h4 h5 h6 h7 h8 h9 h10 h11 = absurd (h9 area feature port refl)
+middle_none (refusal.NotIsolable feature terminal) h0 h1 h2 h3 h4 h5 h6 h7 h8 h9 h10 h11 = absurd (h10 feature terminal refl)
+middle_none (refusal.BadRuleTerminal place) h0 h1 h2 h3 h4 h5 h6 h7 h8 h9 h10 h11 = refl
+middle_none (refusal.RuleExists place) h0 h1 h2 h3 h4 h5 h6 h7 h8 h9 h10 h11 = refl
+middle_none (refusal.NotYet at latest) h0 h1 h2 h3 h4 h5 h6 h7 h8 h9 h10 h11 = absurd (h11 at latest refl)
+middle_none refusal.ServeOnly h0 h1 h2 h3 h4 h5 h6 h7 h8 h9 h10 h11 = refl
+middle_none refusal.Memory h0 h1 h2 h3 h4 h5 h6 h7 h8 h9 h10 h11 = refl
 
 -- no other refusal carries anything there
 pub late_none : (r : Refusal)
@@ -149,6 +155,8 @@ late_none (refusal.DirtyGround area feature port) h0 h1 h2 h3 h4 h5 h6 h7 h8 h9 
 late_none (refusal.NotIsolable feature terminal) h0 h1 h2 h3 h4 h5 h6 h7 h8 h9 h10 h11 h12 = absurd (h10 feature terminal refl)
 late_none (refusal.BadRuleTerminal place) h0 h1 h2 h3 h4 h5 h6 h7 h8 h9 h10 h11 h12 = absurd (h11 place refl)
 late_none (refusal.RuleExists place) h0 h1 h2 h3 h4 h5 h6 h7 h8 h9 h10 h11 h12 = absurd (h12 place refl)
+late_none (refusal.NotYet at latest) h0 h1 h2 h3 h4 h5 h6 h7 h8 h9 h10 h11 h12 = refl
+late_none refusal.ServeOnly h0 h1 h2 h3 h4 h5 h6 h7 h8 h9 h10 h11 h12 = refl
 late_none refusal.Memory h0 h1 h2 h3 h4 h5 h6 h7 h8 h9 h10 h11 h12 = refl
 
 -- no other refusal carries anything there
@@ -188,6 +196,8 @@ last_none (refusal.DirtyGround area feature port) h0 = refl
 last_none (refusal.NotIsolable feature terminal) h0 = refl
 last_none (refusal.BadRuleTerminal place) h0 = refl
 last_none (refusal.RuleExists place) h0 = refl
+last_none (refusal.NotYet at latest) h0 = refl
+last_none refusal.ServeOnly h0 = refl
 last_none refusal.Memory h0 = refl
 
 -- two members that follow

@@ -82,6 +82,13 @@ place_text_plain place.Stops = refl
 place_text_plain place.Consistent = refl
 place_text_plain place.Include = refl
 place_text_plain place.Functions = refl
+place_text_plain place.Weight = refl
+place_text_plain place.Certificate = refl
+place_text_plain place.Nodes = refl
+place_text_plain place.Labels = refl
+place_text_plain place.Keep = refl
+place_text_plain place.At = refl
+place_text_plain place.Query = refl
 
 pub place_text_short : (x : Place) → length (place_text x) ≤ 12
 place_text_short place.Whole = lit≤ tt
@@ -126,6 +133,13 @@ place_text_short place.Stops = lit≤ tt
 place_text_short place.Consistent = lit≤ tt
 place_text_short place.Include = lit≤ tt
 place_text_short place.Functions = lit≤ tt
+place_text_short place.Weight = lit≤ tt
+place_text_short place.Certificate = lit≤ tt
+place_text_short place.Nodes = lit≤ tt
+place_text_short place.Labels = lit≤ tt
+place_text_short place.Keep = lit≤ tt
+place_text_short place.At = lit≤ tt
+place_text_short place.Query = lit≤ tt
 
 -- so is what there is a greatest number of
 pub limit_text_plain : (x : Limit) → escape (limit_text x) ≡ limit_text x

@@ -12,12 +12,12 @@ use Rattle.serde_json.specs.Data.{Num, unsigned, negative, float, Data, null, bo
 use Rattle.serde_json.specs.Read.{number_of, of_json, of_items, of_members, read, max_depth}
 use Rattle.serde_json.specs.Written.{number_text, outline, items_outline, members_outline, compact_text}
 use Rattle.serde_json.proofs.Texts.{print-outline}
-use Rattle.un_replies.specs.ReadBack.{number_read, value_read, items_read, members_read, Has128Bits, Has64Bits, EachNumber, EachItemNumber, EachMemberNumber, ReadBackLaw, WideReadBackLaw}
-use Rattle.un_replies.specs.Replies.{reply_value}
+use Rattle.un_replies.specs.ReadBack.{number_read, value_read, items_read, members_read, Has128Bits, Has64Bits, EachNumber, EachItemNumber, EachMemberNumber, ReadBackLaw, WideReadBackLaw, PastReadBackLaw, PastWideReadBackLaw}
+use Rattle.un_replies.specs.Replies.{reply_value, past_value}
 use Rattle.un_replies.proofs.Shows.{number_decimal, number_negative}
 use Rattle.un_replies.proofs.NumbersRead.{number_of-count, number_of-below}
-use Rattle.un_replies.proofs.Formed.{IsWhole, IsBefore, IsFormed, AreFormedItems, AreFormedMembers, IsFormedTo, turned}
-use Rattle.un_replies.proofs.FormedReplies.{of_reply}
+use Rattle.un_replies.proofs.Formed.{IsWhole, IsBefore, IsFormed, AreFormedItems, AreFormedMembers, IsFormedTo, of_less, turned}
+use Rattle.un_replies.proofs.FormedReplies.{of_reply, of_past}
 
 -- ---- numbers
 
@@ -125,7 +125,7 @@ mutual
 tokens-compact_text : (d : Data) → tree.HasNumbers (outline d) → tokens (compact_text d) ≡ tree.json_tokens (outline d)
 tokens-compact_text d h = ap tokens (sym (print-outline d)) ∙ tokens-print _ (ArePrintable-json_tokens (outline d) h)
 
-read-compact_text : (d : Data) → IsFormedTo 4 d → EachNumber Has128Bits d → read (compact_text d) ≡ Some (value_read d)
+read-compact_text : (d : Data) → IsFormedTo 5 d → EachNumber Has128Bits d → read (compact_text d) ≡ Some (value_read d)
 read-compact_text d h few =
     let last = option_and_then (λ (p : json.Json × List Token). json.if_last p.0 p.1) in
     ap (λ ts. option_and_then of_json (last (json.value max_depth ts))) (tokens-compact_text d (has_numbers d h.formed few) ∙ sym (append-nil _))
@@ -176,7 +176,13 @@ mutual
 -- ---- the laws
 
 pub wide_read_back : WideReadBackLaw
-wide_read_back reply few = read-compact_text (reply_value reply) (of_reply reply) few
+wide_read_back reply few = read-compact_text (reply_value reply) (of_less 4 5 _ (omega arith) (of_reply reply)) few
 
 pub read_back : ReadBackLaw
 read_back reply short = wide_read_back reply (each_wide (reply_value reply) short) ∙ ap Some (read_same (reply_value reply) short)
+
+pub past_wide_read_back : PastWideReadBackLaw
+past_wide_read_back past version few = read-compact_text (past_value past version) (of_past past version) few
+
+pub past_read_back : PastReadBackLaw
+past_read_back past version short = past_wide_read_back past version (each_wide (past_value past version) short) ∙ ap Some (read_same (past_value past version) short)

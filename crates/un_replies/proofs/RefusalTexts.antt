@@ -86,6 +86,10 @@ sorted (refusal.BadRuleTerminal place) None version = refl
 sorted (refusal.BadRuleTerminal place) (Some edit) version = refl
 sorted (refusal.RuleExists place) None version = refl
 sorted (refusal.RuleExists place) (Some edit) version = refl
+sorted (refusal.NotYet at latest) None version = refl
+sorted (refusal.NotYet at latest) (Some edit) version = refl
+sorted refusal.ServeOnly None version = refl
+sorted refusal.ServeOnly (Some edit) version = refl
 sorted refusal.Memory None version = refl
 sorted refusal.Memory (Some edit) version = refl
 
@@ -200,6 +204,8 @@ fields_other (refusal.DirtyGround area feature port) edit version other = refl
 fields_other (refusal.NotIsolable feature terminal) edit version other = refl
 fields_other (refusal.BadRuleTerminal place) edit version other = refl
 fields_other (refusal.RuleExists place) edit version other = refl
+fields_other (refusal.NotYet at latest) edit version other = refl
+fields_other refusal.ServeOnly edit version other = refl
 fields_other refusal.Memory edit version other = absurd (other refl)
 
 -- one piece, and then the others
@@ -255,6 +261,8 @@ name_plain (refusal.DirtyGround area feature port) = refl
 name_plain (refusal.NotIsolable feature terminal) = refl
 name_plain (refusal.BadRuleTerminal place) = refl
 name_plain (refusal.RuleExists place) = refl
+name_plain (refusal.NotYet at latest) = refl
+name_plain refusal.ServeOnly = refl
 name_plain refusal.Memory = refl
 
 pub name_short : (r : Refusal) → length (fields_of r).name ≤ 17
@@ -291,4 +299,6 @@ name_short (refusal.DirtyGround area feature port) = lit≤ tt
 name_short (refusal.NotIsolable feature terminal) = lit≤ tt
 name_short (refusal.BadRuleTerminal place) = lit≤ tt
 name_short (refusal.RuleExists place) = lit≤ tt
+name_short (refusal.NotYet at latest) = lit≤ tt
+name_short refusal.ServeOnly = lit≤ tt
 name_short refusal.Memory = lit≤ tt

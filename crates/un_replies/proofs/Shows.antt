@@ -78,6 +78,9 @@ pub number_of_whole : (z : ℤ) → mag z ≤ 2 ^ 127 → IsNumber (signed_decim
 number_of_whole (pos n) h = number_decimal n (omega arith)
 number_of_whole (negsuc n) h = number_negative (suc n) (omega arith)
 
+pub number_of_count : (n : ℕ) → n < 2 ^ 128 → IsNumber (decimal n)
+number_of_count n h = number_decimal n (omega arith)
+
 -- ---- lists
 
 -- the values are written but for these

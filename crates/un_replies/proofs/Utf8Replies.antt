@@ -31,8 +31,8 @@ use Rattle.un_ask.specs.declared.reply.Reply.{Reply}
 use Rattle.un_ask.specs.declared.reply.Reply.TheVariants as reply
 use Rattle.un_replies.specs.Values.{count, counts, list, in_order, object_of}
 use Rattle.un_replies.specs.Refusals.{RefusalFields, fields_of, limit_text, edit_member, version_member, has_version, fields_value, refusal_value}
-use Rattle.un_replies.specs.Replies.{error_text, flow_text, stored_status, status_text, path_text, point, port, area, placed_error, part, segment, controller, total, attribute, feature_value, result_value, reply_value}
-use Rattle.un_replies.specs.ReadBack.{HasUtf8Name, FeatureHasUtf8, HasUtf8Texts, Utf8Law}
+use Rattle.un_replies.specs.Replies.{error_text, flow_text, stored_status, status_text, path_text, point, port, area, placed_error, part, segment, controller, total, cost, label, piece, edge, attribute, feature_value, result_value, reply_value, past_value}
+use Rattle.un_replies.specs.ReadBack.{HasUtf8Name, FeatureHasUtf8, HasUtf8Texts, Utf8Law, PastUtf8Law}
 use Rattle.un_replies.proofs.Utf8.{EachText, EachMemberText, ascii, compact_text_utf8}
 
 -- ---- words
@@ -133,6 +133,13 @@ place_utf8 place.Stops = ascii refl
 place_utf8 place.Consistent = ascii refl
 place_utf8 place.Include = ascii refl
 place_utf8 place.Functions = ascii refl
+place_utf8 place.Weight = ascii refl
+place_utf8 place.Certificate = ascii refl
+place_utf8 place.Nodes = ascii refl
+place_utf8 place.Labels = ascii refl
+place_utf8 place.Keep = ascii refl
+place_utf8 place.At = ascii refl
+place_utf8 place.Query = ascii refl
 
 stored_status_utf8 : (row : Option StoredSubnet) → IsUtf8 (stored_status row)
 stored_status_utf8 None = ascii refl
@@ -154,6 +161,10 @@ of_counts = of_list count (λ x. tt)
 of_total : (t : Option ℤ) → EachText IsUtf8 (total t)
 of_total None = tt
 of_total (Some z) = tt
+
+of_cost : (c : Option ℕ) → EachText IsUtf8 (cost c)
+of_cost None = tt
+of_cost (Some n) = tt
 
 of_controllers : (cs : List Controller) → All (λ c. IsUtf8 c.subnet) cs → EachText IsUtf8 (list controller cs)
 of_controllers [] h = tt
@@ -236,6 +247,8 @@ of_refusal (refusal.DirtyGround area feature port) edit version h = of_fields (f
 of_refusal (refusal.NotIsolable feature terminal) edit version h = of_fields (fields_of (refusal.NotIsolable feature terminal)) edit version (ascii refl) ((ascii refl, tt), ((ascii refl, tt), tt))
 of_refusal (refusal.BadRuleTerminal place) edit version h = of_fields (fields_of (refusal.BadRuleTerminal place)) edit version (ascii refl) ((ascii refl, tt), tt)
 of_refusal (refusal.RuleExists place) edit version h = of_fields (fields_of (refusal.RuleExists place)) edit version (ascii refl) ((ascii refl, tt), tt)
+of_refusal (refusal.NotYet at latest) edit version h = of_fields (fields_of (refusal.NotYet at latest)) edit version (ascii refl) ((ascii refl, tt), ((ascii refl, tt), tt))
+of_refusal refusal.ServeOnly edit version h = of_fields (fields_of refusal.ServeOnly) edit version (ascii refl) tt
 of_refusal refusal.Memory edit version h = (ascii refl, (tt, tt))
 
 -- ---- replies
@@ -275,7 +288,16 @@ of_reply (reply.Loops segments version) h =
     (ascii refl, (ascii refl, (ascii refl, (of_list segment (λ s. (tt, (tt, tt))) segments, (ascii refl, (tt, tt))))))
 of_reply (reply.Isolation borders features version) h =
     (ascii refl, (of_list port (λ p. (tt, (tt, tt))) borders, (ascii refl, (of_list part (λ p. (tt, (of_counts p.numbers, tt))) features, (ascii refl, (ascii refl, (ascii refl, (tt, tt))))))))
+of_reply (reply.Path walk_cost labels nodes version) h =
+    (ascii refl, (of_cost walk_cost, (ascii refl, (of_list label (λ l. (tt, (tt, (tt, tt)))) labels, (ascii refl, (of_list port (λ p. (tt, (tt, tt))) nodes, (ascii refl, (ascii refl, (ascii refl, (tt, tt))))))))))
+of_reply (reply.Check valid version) h =
+    (ascii refl, (ascii refl, (ascii refl, (tt, (ascii refl, (tt, tt))))))
+of_reply (reply.Diagram edges kept pieces version) h =
+    (ascii refl, (of_list edge (λ e. (tt, (tt, (tt, (tt, tt))))) edges, (ascii refl, (of_list port (λ p. (tt, (tt, tt))) kept, (ascii refl, (ascii refl, (ascii refl, (of_list piece (λ p. (tt, (tt, (tt, (tt, tt))))) pieces, (ascii refl, (tt, tt))))))))))
 of_reply (reply.Refused refusal edit version) h = of_refusal refusal edit version h
 
 pub replies_are_utf8 : Utf8Law
 replies_are_utf8 r h = compact_text_utf8 (reply_value r) (of_reply r h)
+
+pub pasts_are_utf8 : PastUtf8Law
+pasts_are_utf8 past version h = compact_text_utf8 (past_value past version) (ascii refl, (ascii refl, (ascii refl, (of_reply past h, (ascii refl, (tt, tt))))))

@@ -13,7 +13,7 @@ use Rattle.un_defs.specs.declared.refusal.Refusal.TheVariants as refusal
 use Rattle.un_ask.specs.declared.reply.Reply.{Reply}
 use Rattle.un_ask.specs.declared.reply.Reply.TheVariants as reply
 use Rattle.un_ask.specs.Replies.{IsNoMemory}
-use Rattle.un_replies.specs.Replies.{print, reply_value}
+use Rattle.un_replies.specs.Replies.{print, reply_value, past_text, past_value}
 
 -- no byte of the text ends a line
 abbrev IsNoEnd : ℕ → Type 0
@@ -215,6 +215,10 @@ refusal_other (refusal.BadRuleTerminal place) None version other = other_third _
 refusal_other (refusal.BadRuleTerminal place) (Some edit) version other = other_third _ _ refl (lit< tt)
 refusal_other (refusal.RuleExists place) None version other = other_third _ _ refl (lit< tt)
 refusal_other (refusal.RuleExists place) (Some edit) version other = other_third _ _ refl (lit< tt)
+refusal_other (refusal.NotYet at latest) None version other = other_third _ _ refl (lit< tt)
+refusal_other (refusal.NotYet at latest) (Some edit) version other = other_third _ _ refl (lit< tt)
+refusal_other refusal.ServeOnly None version other = other_third _ _ refl (lit< tt)
+refusal_other refusal.ServeOnly (Some edit) version other = other_third _ _ refl (lit< tt)
 refusal_other refusal.Memory edit version other = absurd (other refl)
 
 pub reply_other : (r : Reply) → IsNoMemory r → print r ≢ memory_text
@@ -233,4 +237,23 @@ reply_other (reply.Traced result version) other = other_third _ _ refl (lit< tt)
 reply_other (reply.Controllers controllers version) other = other_third _ _ refl (lit< tt)
 reply_other (reply.Loops segments version) other = above_third _ _ refl (lit< tt)
 reply_other (reply.Isolation borders features version) other = other_third _ _ refl (lit< tt)
+reply_other (reply.Path cost labels nodes version) other = other_third _ _ refl (lit< tt)
+reply_other (reply.Check valid version) other = above_third _ _ refl (lit< tt)
+reply_other (reply.Diagram edges kept pieces version) other = other_third _ _ refl (lit< tt)
 reply_other (reply.Refused r edit version) other = refusal_other r edit version other
+
+-- ---- the replies to queries at past versions
+
+-- what is printed of one is one line, and another text than that for want of memory
+abbrev pub PastLineLaw : Type 0
+PastLineLaw = (past : Reply) (version : ℕ) → NoLineEnd (past_text past version)
+
+abbrev pub PastOtherLaw : Type 0
+PastOtherLaw = (past : Reply) (version : ℕ) → past_text past version ≢ memory_text
+
+pub past_line : PastLineLaw
+past_line past version = text_line (past_value past version)
+
+pub past_other : PastOtherLaw
+unfolding serde_json_on_literals
+past_other past version = above_third _ _ refl (lit< tt)

@@ -29,6 +29,7 @@ early (refusal.Moved at) = (codes "at", count at) ∷ []
 early (refusal.BadAttribute attribute) = (codes "attribute", string attribute) ∷ []
 early (refusal.AlreadyContained by) = (codes "by", count by) ∷ []
 early (refusal.DirtyGround area feature port) = (codes "area", count area) ∷ []
+early (refusal.NotYet at latest) = (codes "at", count at) ∷ []
 early other = []
 
 -- what is carried between `error` and `name`
@@ -44,6 +45,7 @@ middle (refusal.NoStart feature port) = (codes "feature", count feature) ∷ []
 middle (refusal.StartIsValve feature terminal) = (codes "feature", count feature) ∷ []
 middle (refusal.DirtyGround area feature port) = (codes "feature", count feature) ∷ []
 middle (refusal.NotIsolable feature terminal) = (codes "feature", count feature) ∷ []
+middle (refusal.NotYet at latest) = (codes "latest", count latest) ∷ []
 middle other = []
 
 -- what is carried between `name` and `version`

@@ -8,7 +8,7 @@ use Rattle.un_defs.specs.declared.refusal.Refusal.TheVariants as refusal
 use Rattle.un_ask.specs.declared.reply.FeatureReply.{FeatureReply}
 use Rattle.un_ask.specs.declared.reply.Reply.{Reply}
 use Rattle.un_ask.specs.declared.reply.Reply.TheVariants as reply
-use Rattle.un_replies.specs.Replies.{reply_value, print}
+use Rattle.un_replies.specs.Replies.{reply_value, print, past_value, past_text}
 
 -- ---- numbers
 
@@ -101,10 +101,20 @@ HasUtf8Texts other = ⊤
 abbrev pub ReadBackLaw : Type 0
 ReadBackLaw = (reply : Reply) → EachNumber Has64Bits (reply_value reply) → read (print reply) ≡ Some (reply_value reply)
 
--- the same where numbers have more than 64 bits, as the sum of a function may have: they are read as the nearest floats
+-- the same where numbers have more than 64 bits, as the sum of a function or a cost may have: they are read as the nearest floats
 abbrev pub WideReadBackLaw : Type 0
 WideReadBackLaw = (reply : Reply) → EachNumber Has128Bits (reply_value reply) → read (print reply) ≡ Some (value_read (reply_value reply))
 
 -- what is printed of a reply is UTF-8, as a reader of bytes asks
 abbrev pub Utf8Law : Type 0
 Utf8Law = (reply : Reply) → HasUtf8Texts reply → IsUtf8 (print reply)
+
+-- the same of what is printed of a reply to a query at a past version
+abbrev pub PastReadBackLaw : Type 0
+PastReadBackLaw = (past : Reply) (version : ℕ) → EachNumber Has64Bits (past_value past version) → read (past_text past version) ≡ Some (past_value past version)
+
+abbrev pub PastWideReadBackLaw : Type 0
+PastWideReadBackLaw = (past : Reply) (version : ℕ) → EachNumber Has128Bits (past_value past version) → read (past_text past version) ≡ Some (value_read (past_value past version))
+
+abbrev pub PastUtf8Law : Type 0
+PastUtf8Law = (past : Reply) (version : ℕ) → HasUtf8Texts past → IsUtf8 (past_text past version)

@@ -62,12 +62,14 @@ fields_of (refusal.DirtyGround area feature port) = refusal_fields 43 (codes "Di
 fields_of (refusal.NotIsolable feature terminal) = refusal_fields 44 (codes "NotIsolable") ((codes "feature", count feature) ∷ (codes "terminal", count terminal) ∷ [])
 fields_of (refusal.BadRuleTerminal place) = refusal_fields 45 (codes "BadRuleTerminal") ((codes "place", count place) ∷ [])
 fields_of (refusal.RuleExists place) = refusal_fields 46 (codes "RuleExists") ((codes "place", count place) ∷ [])
+fields_of (refusal.NotYet at latest) = refusal_fields 47 (codes "NotYet") ((codes "at", count at) ∷ (codes "latest", count latest) ∷ [])
+fields_of refusal.ServeOnly = refusal_fields 48 (codes "ServeOnly") []
 fields_of refusal.Memory = refusal_fields 0 [] []
 
--- The version is not told with a line that is no request or too long, with one that is no schema, nor with a query that
--- wants a later version.
+-- The version is not told with a line that is no request or too long, with one that is no schema, with a query that
+-- wants a later version, nor with one at a version that is not there yet or that only a server answers at.
 abbrev pub has_version : ℕ → Bool
-has_version error = not (error == 1 || error == 2 || error == 3 || error == 6 || error == 31)
+has_version error = not (error == 1 || error == 2 || error == 3 || error == 6 || error == 31 || error == 47 || error == 48)
 
 -- the place of the refused edit in a batch
 abbrev pub edit_member : Option ℕ → List (List ℕ × Data)

@@ -1,6 +1,6 @@
 -- The values of replies: what each shows, member by member. A reply is printed as the compact text of its value.
-use Rattle.std.specs.Prelude.{ℕ, ℤ, List, [], ◌∷◌, length, map, codes, Option, None, Some}
-use Rattle.serde_json.specs.Data.{Data, null, string}
+use Rattle.std.specs.Prelude.{◌≡◌, ℕ, ℤ, List, [], ◌∷◌, ◌++◌, length, map, codes, Option, None, Some}
+use Rattle.serde_json.specs.Data.{Data, null, boolean, string}
 use Rattle.serde_json.specs.Written.{compact_text}
 use Rattle.un_geom.specs.declared.point.Point.{Point}
 use Rattle.un_geom.specs.Rectangle.{Rectangle}
@@ -17,6 +17,9 @@ use Rattle.un_ask.specs.declared.stored.Status.TheVariants as status
 use Rattle.un_ask.specs.declared.stored.StoredSubnet.{StoredSubnet}
 use Rattle.un_ask.specs.declared.results.Part.{Part}
 use Rattle.un_ask.specs.declared.results.Segment.{Segment}
+use Rattle.un_ask.specs.declared.results.Label.{Label}
+use Rattle.un_ask.specs.declared.results.Piece.{Piece}
+use Rattle.un_ask.specs.declared.results.Edge.{Edge}
 use Rattle.un_ask.specs.declared.reply.FeatureReply.{FeatureReply}
 use Rattle.un_ask.specs.declared.reply.ResultReply.{ResultReply}
 use Rattle.un_ask.specs.declared.reply.Reply.{Reply}
@@ -80,6 +83,23 @@ abbrev pub total : Option ℤ → Data
 total None = null
 total (Some z) = whole z
 
+-- what a walk costs, in all its digits; where there is no walk it is null
+abbrev pub cost : Option ℕ → Data
+cost None = null
+cost (Some n) = count n
+
+-- a reached port, and the least that a walk to it costs
+abbrev pub label : Label → Data
+label l = tuple (count l.port.feature ∷ count l.port.number ∷ count l.cost ∷ [])
+
+-- a piece of a diagram: its name, and how many nodes and features it has
+abbrev pub piece : Piece → Data
+piece p = tuple (count p.name.feature ∷ count p.name.number ∷ count p.nodes ∷ count p.features ∷ [])
+
+-- an edge of a diagram: the kept port that it comes from, and where it leads to
+abbrev pub edge : Edge → Data
+edge e = tuple (count e.from.feature ∷ count e.from.number ∷ count e.to.feature ∷ count e.to.number ∷ [])
+
 abbrev pub attribute : List ℕ × ℤ → List ℕ × Data
 attribute (name, value) = (name, whole value)
 
@@ -134,8 +154,34 @@ reply_value (reply.Loops segments version) = object_of (
     (codes "ok", string (codes "loops")) ∷ (codes "segments", list segment segments) ∷ (codes "version", count version) ∷ [])
 reply_value (reply.Isolation borders features version) = object_of (
     (codes "borders", list port borders) ∷ (codes "features", list part features) ∷ (codes "ok", string (codes "isolation")) ∷ (codes "version", count version) ∷ [])
+reply_value (reply.Path walk_cost labels nodes version) = object_of (
+    (codes "cost", cost walk_cost) ∷ (codes "labels", list label labels) ∷ (codes "nodes", list port nodes) ∷ (codes "ok", string (codes "path"))
+    ∷ (codes "version", count version) ∷ [])
+reply_value (reply.Check valid version) = object_of (
+    (codes "ok", string (codes "check")) ∷ (codes "valid", boolean valid) ∷ (codes "version", count version) ∷ [])
+reply_value (reply.Diagram edges kept pieces version) = object_of (
+    (codes "edges", list edge edges) ∷ (codes "kept", list port kept) ∷ (codes "ok", string (codes "diagram")) ∷ (codes "pieces", list piece pieces)
+    ∷ (codes "version", count version) ∷ [])
 reply_value (reply.Refused refusal edit version) = refusal_value refusal edit version
 
 -- the text of a reply
 abbrev pub print : Reply → List ℕ
 print r = compact_text (reply_value r)
+
+-- the reply to a query at a past version: the reply or refusal at that version, and a version that is reported beside it
+abbrev pub past_value : Reply → ℕ → Data
+past_value past version = object_of (
+    (codes "ok", string (codes "past")) ∷ (codes "past", reply_value past) ∷ (codes "version", count version) ∷ [])
+
+-- its text
+abbrev pub past_text : Reply → ℕ → List ℕ
+past_text past version = compact_text (past_value past version)
+
+-- the text of a reply, and what stands round it in the reply to a query at a past version
+abbrev pub past_around : List ℕ → ℕ → List ℕ
+past_around text version =
+    codes "{\"ok\":\"past\",\"past\":" ++ (text ++ (codes ",\"version\":" ++ (compact_text (count version) ++ codes "}")))
+
+-- so the reply at that version may be printed first
+abbrev pub PastAroundLaw : Type 0
+PastAroundLaw = (past : Reply) (version : ℕ) → past_text past version ≡ past_around (print past) version

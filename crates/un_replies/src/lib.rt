@@ -15,4 +15,4 @@ mod refusal;
 mod to_json;
 
 pub use command::{COMMAND_REPLY_ROOM, print_command_reply};
-pub use print::print_reply;
+pub use print::{print_past, print_reply};

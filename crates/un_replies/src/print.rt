@@ -1,9 +1,10 @@
 //! Replies as the compact text of their values.
 ghost use Rattle.std.specs.Prelude.{◌≡◌, ◌+◌, ◌<◌, ◌≤◌, ◌++◌, IfOk, OnOk, OnErr, IsTrue, ◌↔◌, vec_len, vec_capacity};
 ghost use Rattle.un_replies.specs.Commands.{IsOfCommand, HasRefusalName, command_room};
-ghost use Rattle.un_replies.specs.Replies.{print};
+ghost use Rattle.un_replies.specs.Replies.{print, past_around};
 
 use crate::command::put_command;
+use crate::member::follow_count;
 use crate::names::names;
 use crate::put::put;
 use crate::query::show_query;
@@ -95,4 +96,22 @@ pub fn print_reply(alloc: Global, reply: &Reply, out: &mut Vec<u8>) -> Result<()
     } else {
         add_query(alloc, reply, out)
     }
+}
+
+/// Appends the text of the reply to a query at a past version: `past` is the text of the reply, or of the refusal, at that
+/// version, and `version` is reported beside it. It leaves room for a line end after it. Running out of memory changes nothing.
+#[tactic(auto, unfolding(serde_json::proofs::OnLiterals::serde_json_on_literals))]
+pub fn print_past(past: &[u8], version: u64, out: &mut Vec<u8>) -> Result<(), AllocError>
+    ensures ok { OnOk result (out.new.items ≡ out.old.items ++ past_around past.now version) }
+    ensures room { OnOk result (vec_len out.new < vec_capacity out.new) }
+    ensures err { OnErr result (out.new.items ≡ out.old.items) }
+    ensures capacity { vec_capacity out.old ≤ vec_capacity out.new }
+{
+    // What stands round the reply has at most 53 bytes, the line end included.
+    out.reserve(past.len() + 64)?;
+    put(out, b"{\"ok\":\"past\",\"past\":");
+    put(out, past);
+    follow_count(out, "version", version);
+    put(out, b"}");
+    Ok(())
 }

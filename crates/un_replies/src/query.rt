@@ -9,10 +9,10 @@ ghost use Rattle.un_replies.specs.Replies.{reply_value, result_value, status_tex
 ghost use Rattle.un_replies.specs.Values.{counts, list};
 
 use crate::feature::show_feature;
-use crate::to_json::{count_member, list_member, string_member};
+use crate::to_json::{ToJson, count_member, list_member, string_member};
 use json::Writer;
 use std::alloc::AllocError;
-use un_ask::results::{Controllers, Parts, Segments};
+use un_ask::results::{Controllers, Edges, Labels, Parts, Pieces, Segments};
 use un_ask::{Areas, PlacedErrors, Reply, ResultReply, Status};
 use un_defs::Ids;
 use un_defs::port::Ports;
@@ -125,6 +125,60 @@ fn show_isolation(
     out.end_object()
 }
 
+fn show_path(
+    cost: &Option<u128>,
+    labels: &Labels,
+    nodes: &Ports,
+    version: u64,
+    out: &mut Writer,
+) -> Result<(), AllocError>
+    ensures ok { OnOk result (out.new.tokens
+        ≡ out.old.tokens ++ json_tokens (outline (reply_value (reply.Path cost.now labels.now nodes.now version)))) }
+    ensures before { out.new.before ≡ out.old.before }
+{
+    out.begin_object()?;
+    out.key("cost")?;
+    cost.show(out)?;
+    list_member("labels", labels.as_slice(), out)?;
+    list_member("nodes", nodes.as_slice(), out)?;
+    string_member("ok", "path", out)?;
+    count_member("version", version, out)?;
+    out.end_object()
+}
+
+fn show_check(valid: bool, version: u64, out: &mut Writer) -> Result<(), AllocError>
+    ensures ok { OnOk result (out.new.tokens
+        ≡ out.old.tokens ++ json_tokens (outline (reply_value (reply.Check valid version)))) }
+    ensures before { out.new.before ≡ out.old.before }
+{
+    out.begin_object()?;
+    string_member("ok", "check", out)?;
+    out.key("valid")?;
+    out.boolean(valid)?;
+    count_member("version", version, out)?;
+    out.end_object()
+}
+
+fn show_diagram(
+    edges: &Edges,
+    kept: &Ports,
+    pieces: &Pieces,
+    version: u64,
+    out: &mut Writer,
+) -> Result<(), AllocError>
+    ensures ok { OnOk result (out.new.tokens
+        ≡ out.old.tokens ++ json_tokens (outline (reply_value (reply.Diagram edges.now kept.now pieces.now version)))) }
+    ensures before { out.new.before ≡ out.old.before }
+{
+    out.begin_object()?;
+    list_member("edges", edges.as_slice(), out)?;
+    list_member("kept", kept.as_slice(), out)?;
+    string_member("ok", "diagram", out)?;
+    list_member("pieces", pieces.as_slice(), out)?;
+    count_member("version", version, out)?;
+    out.end_object()
+}
+
 // The first members of a stored subnetwork: its controllers and members, by id.
 fn show_found(controllers: &Ports, members: &Ids, out: &mut Writer) -> Result<(), AllocError>
     ensures ok { OnOk result (out.new.tokens ≡ out.old.tokens
@@ -200,6 +254,19 @@ pub(crate) fn show_query(reply: &Reply, out: &mut Writer) -> Result<(), AllocErr
             features,
             version,
         } => show_isolation(borders, features, *version, out),
+        Reply::Path {
+            cost,
+            labels,
+            nodes,
+            version,
+        } => show_path(cost, labels, nodes, *version, out),
+        Reply::Check { valid, version } => show_check(*valid, *version, out),
+        Reply::Diagram {
+            edges,
+            kept,
+            pieces,
+            version,
+        } => show_diagram(edges, kept, pieces, *version, out),
         _ => Ok(()),
     }
 }

@@ -53,6 +53,8 @@ fn number_of(refusal: &Refusal) -> u64
         Refusal::NotIsolable { .. } => 44,
         Refusal::BadRuleTerminal { .. } => 45,
         Refusal::RuleExists { .. } => 46,
+        Refusal::NotYet { .. } => 47,
+        Refusal::ServeOnly => 48,
         // Running out of memory has a reply of its own.
         Refusal::Memory => 0,
     }
@@ -96,6 +98,8 @@ fn name_of(refusal: &Refusal) -> &'static str
         Refusal::NotIsolable { .. } => "NotIsolable",
         Refusal::BadRuleTerminal { .. } => "BadRuleTerminal",
         Refusal::RuleExists { .. } => "RuleExists",
+        Refusal::NotYet { .. } => "NotYet",
+        Refusal::ServeOnly => "ServeOnly",
         Refusal::Memory => "",
     }
 }
@@ -125,7 +129,7 @@ fn put_early(out: &mut Vec<u8>, refusal: &Refusal)
     ensures capacity { vec_capacity out.old ≤ vec_capacity out.new }
 {
     match refusal {
-        Refusal::Moved { at } => lead_count(out, "at", *at),
+        Refusal::Moved { at } | Refusal::NotYet { at, .. } => lead_count(out, "at", *at),
         Refusal::AlreadyContained { by } => lead_count(out, "by", *by),
         Refusal::DirtyGround { area, .. } => lead_count(out, "area", *area),
         Refusal::BadAttribute { attribute } => lead_name(out, "attribute", attribute),
@@ -146,7 +150,9 @@ fn put_middle(out: &mut Vec<u8>, refusal: &Refusal)
         Refusal::NoSuchFeature { id } => follow_count(out, "id", *id),
         Refusal::NoSuchKind { kind } => follow_name(out, "kind", kind),
         Refusal::HasAssociations { least } => follow_count(out, "least", *least),
-        Refusal::Ahead { latest, .. } => follow_count(out, "latest", *latest),
+        Refusal::Ahead { latest, .. } | Refusal::NotYet { latest, .. } => {
+            follow_count(out, "latest", *latest)
+        }
         Refusal::BadTerminal { feature }
         | Refusal::Conflict { feature, .. }
         | Refusal::Disjoint { feature, .. }
@@ -232,7 +238,7 @@ fn put_edit(out: &mut Vec<u8>, edit: Option<u64>)
 fn has_version(number: u64) -> bool
     ensures { result ≡ has_version number }
 {
-    !matches!(number, 1 | 2 | 3 | 6 | 31)
+    !matches!(number, 1 | 2 | 3 | 6 | 31 | 47 | 48)
 }
 
 // Puts the version, if the refusal carries it.

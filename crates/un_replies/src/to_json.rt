@@ -9,7 +9,7 @@ ghost use Rattle.un_replies.specs.Replies.{error_text};
 use itoa::Buffer;
 use json::Writer;
 use std::alloc::AllocError;
-use un_ask::{Part, Segment};
+use un_ask::{Edge, Label, Part, Piece, Segment};
 use un_defs::{Controller, ErrorKind, Port, TopoError};
 use un_geom::{Point, Rect};
 
@@ -187,6 +187,77 @@ impl ToJson for Option<i128> {
             }
             None => out.null(),
         }
+    }
+}
+
+// What a walk costs.
+impl ToJson for u128 {
+    ghost use Rattle.un_replies.specs.Values.{count};
+
+    ghost json_value = { count };
+
+    #[tactic(auto, using(crate::proofs::Shows::number_of_count))]
+    fn show(&self, out: &mut Writer) -> Result<(), AllocError> {
+        let mut buffer = Buffer::new();
+        out.number(buffer.format(*self))
+    }
+}
+
+// What the best walk costs, if there is a walk.
+impl ToJson for Option<u128> {
+    ghost use Rattle.un_replies.specs.Replies.{cost};
+
+    ghost json_value = { cost };
+
+    fn show(&self, out: &mut Writer) -> Result<(), AllocError> {
+        match self {
+            Some(cost) => cost.show(out),
+            None => out.null(),
+        }
+    }
+}
+
+impl ToJson for Label {
+    ghost use Rattle.un_replies.specs.Replies.{label};
+
+    ghost json_value = { label };
+
+    fn show(&self, out: &mut Writer) -> Result<(), AllocError> {
+        out.begin_array()?;
+        out.u64(self.port.feature)?;
+        out.u64(self.port.number as u64)?;
+        self.cost.show(out)?;
+        out.end_array()
+    }
+}
+
+impl ToJson for Piece {
+    ghost use Rattle.un_replies.specs.Replies.{piece};
+
+    ghost json_value = { piece };
+
+    fn show(&self, out: &mut Writer) -> Result<(), AllocError> {
+        out.begin_array()?;
+        out.u64(self.name.feature)?;
+        out.u64(self.name.number as u64)?;
+        out.u64(self.nodes as u64)?;
+        out.u64(self.features as u64)?;
+        out.end_array()
+    }
+}
+
+impl ToJson for Edge {
+    ghost use Rattle.un_replies.specs.Replies.{edge};
+
+    ghost json_value = { edge };
+
+    fn show(&self, out: &mut Writer) -> Result<(), AllocError> {
+        out.begin_array()?;
+        out.u64(self.from.feature)?;
+        out.u64(self.from.number as u64)?;
+        out.u64(self.to.feature)?;
+        out.u64(self.to.number as u64)?;
+        out.end_array()
     }
 }
 

@@ -6,15 +6,17 @@ ghost use Rattle.un_ask.specs.declared.reply.Reply.TheVariants.{Edited};
 use std::alloc::Global;
 use std::test::Fail;
 use un_ask::stored::StoredSubnet;
-use un_ask::{EditWord, Points, Reply, Status};
+use un_ask::{EditWord, Points, Refusal, Reply, Status};
 use un_defs::Ids;
 use un_defs::port::Ports;
 use un_replies::{COMMAND_REPLY_ROOM, print_command_reply, print_reply};
 use un_schema::Name;
 
+mod past;
 mod queries;
 mod read_back;
 mod refusals;
+mod walks;
 
 // Whether the reply is printed so.
 fn prints(alloc: Global, reply: &Reply, text: &[u8]) -> bool {
@@ -131,6 +133,20 @@ fn command_reply_in_spare_room(rt: HostRuntime) -> Result<(), Fail> {
     let mut out = Vec::with_capacity(rt.alloc(), COMMAND_REPLY_ROOM)?;
     let text = b"{\"areas\":[4,2],\"id\":9,\"ok\":\"flow\",\"version\":12}";
     print_command_reply(&edited(EditWord::Flow), &mut out);
+    assert!(rt; out.as_slice() == text.as_slice());
+    Ok(())
+}
+
+#[test]
+fn refusal_in_spare_room(rt: HostRuntime) -> Result<(), Fail> {
+    let mut out = Vec::with_capacity(rt.alloc(), COMMAND_REPLY_ROOM)?;
+    let reply = Reply::Refused {
+        refusal: Refusal::NotYet { at: 3, latest: 2 },
+        edit: None,
+        version: 0,
+    };
+    let text = b"{\"at\":3,\"error\":47,\"latest\":2,\"name\":\"NotYet\"}";
+    print_command_reply(&reply, &mut out);
     assert!(rt; out.as_slice() == text.as_slice());
     Ok(())
 }

@@ -202,6 +202,24 @@ fn refusals_that_carry_several_numbers(rt: HostRuntime) {
 }
 
 #[test]
+fn refusals_of_a_query_at_a_past_version(rt: HostRuntime) {
+    let alloc = rt.alloc();
+    let printed = [
+        refused(
+            alloc,
+            Refusal::NotYet { at: 3, latest: 2 },
+            b"{\"at\":3,\"error\":47,\"latest\":2,\"name\":\"NotYet\"}",
+        ),
+        refused(
+            alloc,
+            Refusal::ServeOnly,
+            b"{\"error\":48,\"name\":\"ServeOnly\"}",
+        ),
+    ];
+    assert_eq!(rt; printed, [true; 2]);
+}
+
+#[test]
 fn refusals_of_a_walk(rt: HostRuntime) {
     let alloc = rt.alloc();
     let printed = [
