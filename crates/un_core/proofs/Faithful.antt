@@ -1,5 +1,5 @@
 -- The state after a history replies and answers as the history does, and so does the one behind a request.
-use Rattle.std.proofs.Common.{◌≡◌, List, ◌++◌, ap, subst, ◌∙◌}
+use Rattle.std.proofs.Common.{◌≡◌, List, ◌++◌, refl, ap, subst, ◌∙◌}
 use Rattle.un_ask.specs.declared.request.Command.{Command}
 use Rattle.un_ask.specs.declared.request.Request.{Request}
 use Rattle.un_ask.specs.declared.request.Request.TheVariants as request
@@ -17,6 +17,7 @@ use Rattle.un_core.proofs.HistoryAnswers.{two_grounds, history_replies, history_
 replied : (S : Setup) (history : List Command) (s : State) → IsAfter S history s → (r : Request) → reply_to s r ≡ reply_after S history r
 replied S history s after (request.Command c) = ap (λ s. command_reply s c) after.is ∙ history_replies S history c after.may
 replied S history s after (request.Query q) = ap (λ s. answer s q) after.is ∙ history_answers S history q after.may
+replied S history s after (request.Past q) = refl
 
 pub states_are_faithful : FaithfulLaw
 states_are_faithful S history s after = record {
@@ -34,3 +35,4 @@ pub requests_lead : BehindLaw
 requests_lead S history s (request.Command c) after =
     subst (λ t. IsAfter S (accepted_of t c ++ history) (state_after s c)) after.is (after_command S history s c after)
 requests_lead S history s (request.Query q) after = after
+requests_lead S history s (request.Past q) after = after

@@ -7,16 +7,18 @@ use Rattle.un_ask.specs.declared.typed.TypedAsk.{TypedAsk}
 use Rattle.un_ask.specs.declared.request.Command.{Command}
 use Rattle.un_ask.specs.declared.request.Command.TheVariants as command
 use Rattle.un_ask.specs.declared.query.Asked.{Asked}
-use Rattle.un_ask.specs.declared.query.Asked.TheVariants.{Version, Dirty, Errors, Trace}
+use Rattle.un_ask.specs.declared.query.Asked.TheVariants.{Version, Dirty, Errors, Trace, Path, Check, Diagram}
 use Rattle.un_ask.specs.declared.reply.Reply.TheVariants as reply
 use Rattle.un_tiers.specs.declared.setup.Setup.{Setup}
 use Rattle.un_resolve.specs.Resolved.{resolved, resolving_refusal}
+use Rattle.un_resolve.specs.Walks.{path_asked, check_asked, diagram_asked}
 use Rattle.un_core.specs.State.{State}
 use Rattle.un_core.specs.Validation.{met, IsKept}
 use Rattle.un_core.specs.History.{after_all}
 use Rattle.un_core.specs.Cover.{IsState, MayAllHappen, IsOfHistory}
 use Rattle.un_core.specs.Listed.{errors_in}
-use Rattle.un_core.specs.Answers.{at_version, query_refusal, refused, asked_on, traced, traced_on, survey_for, kept_survey, fresh_survey, kept_basis, fresh_basis}
+use Rattle.un_core.specs.Answers.{at_version, query_refusal, refused, asked_on, traced, traced_on, survey_for, kept_survey, fresh_survey, kept_basis, fresh_basis, path_over, check_over, diagram_over}
+use Rattle.un_core.specs.Walked.{Survey}
 use Rattle.un_core.specs.Walks.{TwoGroundsLaw}
 use Rattle.un_core.specs.Commands.{command_refusal, refusal_reply, accepted}
 use Rattle.un_core.specs.Clearing.{fresh_errors}
@@ -27,6 +29,7 @@ use Rattle.un_core.proofs.Grounds.{history_points}
 use Rattle.un_core.proofs.Asked.{kept_points}
 use Rattle.un_core.proofs.Listed.{errors_listed}
 use Rattle.un_core.proofs.Traces.{fresh_trace, history_trace}
+use Rattle.un_core.proofs.WalkAnswers.{path_fresh, check_fresh, diagram_fresh, path_consistent, check_consistent, diagram_consistent, answered_same}
 use Rattle.un_core.proofs.Clearing.{validation_does}
 use Rattle.un_core.proofs.Accepted.{versions_count}
 
@@ -42,6 +45,18 @@ module _ (s : State) (is : IsState s) where
 
   asked_fresh : (what : Asked) → asked_on s (kept_basis s) what ≡ asked_on s (fresh_basis s) what
   asked_fresh (Trace ask) = ap (option_map_or (refused s) (resolving_refusal s.setup s.features ask)) (same_on_fresh (resolved s.setup s.features ask))
+  asked_fresh (Path ask) =
+      answered_same s (λ typed. at_version s.version (path_over (kept_survey s) typed)) (λ typed. at_version s.version (path_over (fresh_survey s) typed))
+      (path_asked s.setup.schema s.features ask)
+      (λ typed e. ap (at_version s.version) (path_fresh s is typed (path_consistent s.setup.schema s.features ask typed e)))
+  asked_fresh (Check ask) =
+      answered_same s (λ typed. at_version s.version (check_over (kept_survey s) typed)) (λ typed. at_version s.version (check_over (fresh_survey s) typed))
+      (check_asked s.setup.schema s.features ask)
+      (λ typed e. ap (at_version s.version) (check_fresh s is typed (check_consistent s.setup.schema s.features ask typed e)))
+  asked_fresh (Diagram ask) =
+      answered_same s (λ typed. at_version s.version (diagram_over (kept_survey s) typed)) (λ typed. at_version s.version (diagram_over (fresh_survey s) typed))
+      (diagram_asked s.setup.schema s.features ask)
+      (λ typed e. ap (at_version s.version) (diagram_fresh s is typed (diagram_consistent s.setup.schema s.features ask typed e)))
   asked_fresh _ = refl
 
 pub two_grounds : TwoGroundsLaw
@@ -56,15 +71,15 @@ module _ (S : Setup) (history : List Command) (may : MayAllHappen S history) whe
   of_history : IsOfHistory S history
   of_history = kept_is_history S history may
 
-  fresh_so : (ask : TypedAsk) → traced (fresh_survey (after_all S history)) ask ≡ traced (fresh_after S history) ask
-  fresh_so ask = λ i. traced (record {
+  same_fresh : fresh_survey (after_all S history) ≡ fresh_after S history
+  same_fresh = λ i. record {
     topology = fresh_ground (after_all S history).setup.schema (after_all S history).features (of_history.areas i);
     points = standing_points (after_all S history).features;
-  }) ask
+  }
 
   by_mode : (ask : TypedAsk) (b : Bool) → ask.barriers.consistent ≡ b
       → traced (survey_for (kept_basis (after_all S history)) b) ask ≡ traced (survey_for (history_basis S history) b) ask
-  by_mode ask true e = fresh_trace (after_all S history) ask is e ∙ fresh_so ask
+  by_mode ask true e = fresh_trace (after_all S history) ask is e ∙ ap (λ v. traced v ask) same_fresh
   by_mode ask false e = history_trace S history ask may
 
   same_errors : (extent : _) → errors_in (kept_survey (after_all S history)) extent ≡ errors_in (history_survey S history) extent
@@ -81,6 +96,21 @@ module _ (S : Setup) (history : List Command) (may : MayAllHappen S history) whe
       let typed = resolved (after_all S history).setup (after_all S history).features ask in
       λ i. option_map_or (refused (after_all S history)) (resolving_refusal (after_all S history).setup (after_all S history).features ask)
       (at_version (versions_count S history i) (by_mode typed typed.barriers.consistent refl i))
+  answered_so (Path ask) =
+      let s = after_all S history in
+      answered_same s (λ typed. at_version s.version (path_over (kept_survey s) typed)) (λ typed. at_version (length history) (path_over (fresh_after S history) typed))
+      (path_asked s.setup.schema s.features ask)
+      (λ typed e. let same = path_fresh s is typed (path_consistent s.setup.schema s.features ask typed e) ∙ ap (λ v. path_over v typed) same_fresh in λ i. at_version (versions_count S history i) (same i))
+  answered_so (Check ask) =
+      let s = after_all S history in
+      answered_same s (λ typed. at_version s.version (check_over (kept_survey s) typed)) (λ typed. at_version (length history) (check_over (fresh_after S history) typed))
+      (check_asked s.setup.schema s.features ask)
+      (λ typed e. let same = check_fresh s is typed (check_consistent s.setup.schema s.features ask typed e) ∙ ap (λ v. check_over v typed) same_fresh in λ i. at_version (versions_count S history i) (same i))
+  answered_so (Diagram ask) =
+      let s = after_all S history in
+      answered_same s (λ typed. at_version s.version (diagram_over (kept_survey s) typed)) (λ typed. at_version (length history) (diagram_over (fresh_after S history) typed))
+      (diagram_asked s.setup.schema s.features ask)
+      (λ typed e. let same = diagram_fresh s is typed (diagram_consistent s.setup.schema s.features ask typed e) ∙ ap (λ v. diagram_over v typed) same_fresh in λ i. at_version (versions_count S history i) (same i))
   answered_so _ = refl
 
   accepted_so : (c : Command) → accepted (after_all S history) c ≡ accepted_after S history c

@@ -1,6 +1,8 @@
 pub mod Asked
 pub mod SameReply
 pub mod Traces
+pub mod WalkAnswers
+pub mod WalkReplies
 pub mod Updated
 pub mod NextIds
 pub mod LookUps

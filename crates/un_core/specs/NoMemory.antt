@@ -1,5 +1,5 @@
 -- No reply of a network tells of want of memory: that is told apart from all replies.
-use Rattle.std.proofs.Common.{◌≢◌, ℕ, ◌+◌, ◌||◌, nat_lt, nat_le, not, length, if◌then◌else◌, Bool, true, false, List, [], ◌∷◌, Option, None, Some, option_map}
+use Rattle.std.proofs.Common.{◌≢◌, ℕ, ◌+◌, ◌||◌, nat_lt, nat_le, not, length, if◌then◌else◌, Bool, true, false, List, [], ◌∷◌, Option, None, Some, option_map, Result, Ok, Err}
 use Rattle.std.specs.Option.{option_map_or}
 use Rattle.un_geom.specs.Rectangle.{Rectangle}
 use Rattle.un_schema.specs.declared.place.Place.TheVariants as place
@@ -33,7 +33,14 @@ use Rattle.un_ask.specs.declared.typed.TypedAsk.{TypedAsk}
 use Rattle.un_ask.specs.declared.reply.Reply.{Reply}
 use Rattle.un_ask.specs.declared.reply.Reply.TheVariants as reply
 use Rattle.un_resolve.specs.Resolved.{resolved, resolving_refusal}
-use Rattle.un_resolve.proofs.NoMemory.{resolving_other, naming_other}
+use Rattle.un_resolve.specs.Walks.{path_asked, check_asked, diagram_asked}
+use Rattle.un_resolve.proofs.NoMemory.{resolving_other, naming_other, IsOtherOf, path_other, check_other, diagram_other}
+use Rattle.un_ask.specs.declared.typed.PathAsk.{PathAsk}
+use Rattle.un_ask.specs.declared.typed.CheckAsk.{CheckAsk}
+use Rattle.un_path.specs.Answer.{path_given_dirt, path_reply}
+use Rattle.un_path.specs.Answer.{check_given_dirt, check_reply}
+use Rattle.un_ask.specs.declared.typed.DiagramAsk.{DiagramAsk}
+use Rattle.un_diagram.specs.Answer.{diagram_given_dirt, diagram_reply}
 use Rattle.un_ask.specs.Replies.{IsNoMemory}
 use Rattle.un_loops.specs.Answer.{loops_reply, loops_given_dirt}
 use Rattle.un_isolate.specs.IsolationList.{first_in_the_way}
@@ -45,7 +52,7 @@ use Rattle.un_core.specs.State.{State, known, fresh_ground_of}
 use Rattle.un_core.specs.Refusals.{numbers_refusal, too_many, beside_numbers, added_refusal, rule_refusal, first_refused, most_areas, last_number}
 use Rattle.un_core.specs.Step.{made_at, id_of, rule_of}
 use Rattle.un_core.specs.Commands.{is_known, unknown, known_refusal, command_refusal, refusal_reply, accepted, word_of, areas_of_edit, edit_reply, command_reply}
-use Rattle.un_core.specs.Answers.{Basis, answer_on, asked_on, traced_on, survey_for, reached_from, at_version, query_refusal, feature_reply, row_reply, row_in_tier, subnet_reply, refused, is_loops, reply_over}
+use Rattle.un_core.specs.Answers.{Basis, answer_on, asked_on, traced_on, survey_for, reached_from, at_version, query_refusal, feature_reply, row_reply, row_in_tier, subnet_reply, refused, is_loops, reply_over, reached_any, answered_or, path_over, check_over, diagram_over}
 use Rattle.un_tiers.specs.Lists.{tier_named}
 use Rattle.un_defs.specs.declared.walk.Mode.TheVariants.{Any}
 use Rattle.un_ask.specs.declared.stored.StoredSubnet.{StoredSubnet}
@@ -200,6 +207,32 @@ feature_reply_other s id = go (row s.features id)
     go None = λ e. cc
     go (Some r) = tt
 
+path_reply_other : (v : ℕ) (G : Ground) (ask : PathAsk) (reached : List Node) → IsNoMemory (at_version v (path_reply G ask reached))
+path_reply_other v G ask reached = go (dirt G reached)
+  where
+    go : (d : Option Dirt) → IsNoMemory (at_version v (path_given_dirt d G ask reached))
+    go (Some d) = λ e. cc
+    go None = tt
+
+check_reply_other : (v : ℕ) (G : Ground) (ask : CheckAsk) (reached : List Node) → IsNoMemory (at_version v (check_reply G ask reached))
+check_reply_other v G ask reached = go (dirt G reached)
+  where
+    go : (d : Option Dirt) → IsNoMemory (at_version v (check_given_dirt d G ask reached))
+    go (Some d) = λ e. cc
+    go None = tt
+
+diagram_reply_other : (v : ℕ) (G : Ground) (ask : DiagramAsk) (reached : List Node) → IsNoMemory (at_version v (diagram_reply G ask reached))
+diagram_reply_other v G ask reached = go (dirt G reached)
+  where
+    go : (d : Option Dirt) → IsNoMemory (at_version v (diagram_given_dirt d G ask reached))
+    go (Some d) = λ e. cc
+    go None = tt
+
+-- an answer where names are known, or else another refusal
+answered_other : {A : Type 0} (s : State) (answer : A → Reply) (asked : Result A Refusal) → IsOtherOf asked → ((a : A) → IsNoMemory (answer a)) → IsNoMemory (answered_or s answer asked)
+answered_other s answer (Err r) cause rest = cause
+answered_other s answer (Ok a) cause rest = rest a
+
 traced_other : (b : Basis) (ask : TypedAsk) → IsNoMemory (traced_on b ask)
 traced_other b ask =
     let v = survey_for b ask.barriers.consistent in
@@ -219,3 +252,12 @@ answer_is_no_memory s b q = reply_where (query_refusal s q) (refused s) (asked_o
     at (asked.Trace ask) =
         reply_where (resolving_refusal s.setup s.features ask) (refused s) (traced_on b (resolved s.setup s.features ask)) (resolving_other s.setup s.features ask) (λ r other. other)
         (traced_other b (resolved s.setup s.features ask))
+    at (asked.Path ask) =
+        answered_other s (λ typed. at_version b.version (path_over b.consistent typed)) (path_asked s.setup.schema s.features ask) (path_other s.setup.schema s.features ask)
+        (λ typed. path_reply_other b.version b.consistent.topology typed (reached_any b.consistent typed.barriers (typed.from ∷ [])))
+    at (asked.Check ask) =
+        answered_other s (λ typed. at_version b.version (check_over b.consistent typed)) (check_asked s.setup.schema s.features ask) (check_other s.setup.schema s.features ask)
+        (λ typed. check_reply_other b.version b.consistent.topology typed (reached_any b.consistent typed.barriers (typed.from ∷ [])))
+    at (asked.Diagram ask) =
+        answered_other s (λ typed. at_version b.version (diagram_over b.consistent typed)) (diagram_asked s.setup.schema s.features ask) (diagram_other s.setup.schema s.features ask)
+        (λ typed. diagram_reply_other b.version b.consistent.topology typed (reached_any b.consistent typed.barriers typed.starts))

@@ -1,11 +1,13 @@
--- Requests: what they are replied to, and the state behind them; by the state itself and by a history.
-use Rattle.std.specs.Prelude.{◌≡◌, List, ◌++◌}
+-- Requests of a script: what they are replied to, and the state behind them; by the state itself and by a history.
+use Rattle.std.specs.Prelude.{◌≡◌, List, ◌++◌, None}
 use Rattle.un_geom.specs.Rectangle.{Rectangle}
 use Rattle.un_ask.specs.declared.request.Command.{Command}
 use Rattle.un_ask.specs.declared.request.Request.{Request}
 use Rattle.un_ask.specs.declared.request.Request.TheVariants as request
 use Rattle.un_ask.specs.declared.query.Query.{Query}
 use Rattle.un_ask.specs.declared.reply.Reply.{Reply}
+use Rattle.un_ask.specs.declared.reply.Reply.TheVariants.{Refused}
+use Rattle.un_defs.specs.declared.refusal.Refusal.TheVariants.{ServeOnly}
 use Rattle.un_tiers.specs.declared.setup.Setup.{Setup}
 use Rattle.un_core.specs.State.{State}
 use Rattle.un_core.specs.Commands.{command_reply, state_after, accepted_of}
@@ -16,23 +18,31 @@ use Rattle.un_core.specs.Accepted.{IsAfter}
 use Rattle.un_core.specs.Clearing.{Validates}
 use Rattle.un_core.specs.Walks.{IsExact}
 
+-- a script does not answer at past versions
+abbrev pub serve_only : Reply
+serve_only = Refused ServeOnly None 0
+
 -- the reply at a state, and the state behind it
 abbrev pub reply_to : State → Request → Reply
 reply_to s (request.Command c) = command_reply s c
 reply_to s (request.Query q) = answer s q
+reply_to s (request.Past q) = serve_only
 
 abbrev pub state_behind : State → Request → State
 state_behind s (request.Command c) = state_after s c
 state_behind s (request.Query q) = s
+state_behind s (request.Past q) = s
 
 -- the reply after a history, and the history behind it
 abbrev pub reply_after : Setup → List Command → Request → Reply
 reply_after S history (request.Command c) = command_reply_after S history c
 reply_after S history (request.Query q) = answer_after S history q
+reply_after S history (request.Past q) = serve_only
 
 abbrev pub history_behind : Setup → List Command → Request → List Command
 history_behind S history (request.Command c) = accepted_of (after_all S history) c ++ history
 history_behind S history (request.Query q) = history
+history_behind S history (request.Past q) = history
 
 -- ---- what is to be shown
 

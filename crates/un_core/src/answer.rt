@@ -10,7 +10,7 @@ ghost use Rattle.un_loops.specs.Answer.{IsForLoops};
 ghost use Rattle.un_isolate.specs.Answer.{IsForIsolation};
 ghost use Rattle.un_core.specs.Cover.{IsState};
 ghost use Rattle.un_core.specs.Listed.{errors_in};
-ghost use Rattle.un_core.specs.Answers.{is_loops, AreClear, MayWalk, query_refusal, refused, at_version, kept_survey, kept_basis, fresh_basis, reached_from, traced, trace_on, asked_on, answer_on, answer, reached_by, most_look_ups};
+ghost use Rattle.un_core.specs.Answers.{is_loops, AreClear, MayWalk, query_refusal, refused, IsNoTrace, at_version, kept_survey, kept_basis, fresh_basis, reached_from, traced, trace_on, asked_on, answer_on, answer, reached_by, most_look_ups};
 
 use crate::kept::Kept;
 use crate::net::Net;
@@ -38,8 +38,8 @@ fn is_isolation(kind: TraceKind) -> bool
     matches!(kind, TraceKind::Isolation)
 }
 
-/// What a trace answers, with the version of the state.
-fn at_version(reply: Reply, version: u64) -> Reply
+/// What a walk answers, with the version of the state.
+pub(crate) fn at_version(reply: Reply, version: u64) -> Reply
     ensures { result ≡ at_version version reply }
 {
     match reply {
@@ -71,6 +71,39 @@ fn at_version(reply: Reply, version: u64) -> Reply
         } => Reply::Refused {
             refusal,
             edit,
+            version,
+        },
+        other => shown_at_version(other, version),
+    }
+}
+
+/// What a path, a check or a diagram answers, with the version of the state.
+fn shown_at_version(reply: Reply, version: u64) -> Reply
+    requires { IsNoTrace reply }
+    ensures { result ≡ at_version version reply }
+{
+    match reply {
+        Reply::Path {
+            cost,
+            labels,
+            nodes,
+            version: _,
+        } => Reply::Path {
+            cost,
+            labels,
+            nodes,
+            version,
+        },
+        Reply::Check { valid, version: _ } => Reply::Check { valid, version },
+        Reply::Diagram {
+            edges,
+            kept,
+            pieces,
+            version: _,
+        } => Reply::Diagram {
+            edges,
+            kept,
+            pieces,
             version,
         },
         other => other,
@@ -194,7 +227,7 @@ impl Net {
     }
 
     /// The reply that tells of a refusal, unless it is one of want of memory.
-    fn refused_by(&self, refusal: Refusal) -> Result<Reply, AllocError>
+    pub(crate) fn refused_by(&self, refusal: Refusal) -> Result<Reply, AllocError>
         ensures reply { IfOk result (λ reply. reply ≡ refused self.now refusal) }
         ensures other { OnOk result (refusal ≢ Memory) }
     {
@@ -254,6 +287,9 @@ impl Net {
                 version,
             }),
             Asked::Trace(ask) => self.traced(alloc, ask, steps),
+            Asked::Path(ask) => self.path(alloc, ask, steps),
+            Asked::Check(ask) => self.check(alloc, ask, steps),
+            Asked::Diagram(ask) => self.diagram(alloc, ask, steps),
             Asked::Subnet { tier, subnet } => self.subnet(alloc, tier, subnet),
         }
     }
@@ -261,9 +297,9 @@ impl Net {
     /// What a query is answered. It changes nothing.
     ///
     /// It is refused by `Ahead` where it wants a later version; and then the query for a feature by `NoSuchFeature`, where none with the id is
-    /// live; that for a subnetwork by `NoSuchTier` or `NoSuchSubnetwork`, where none is stored; and a trace as `un_resolve` refuses it, by
-    /// `DirtyGround` in consistent mode where a dirty area covers a node that is reached, or by `NotIsolable` where a controller cannot be cut off. `steps` counts the
-    /// stars that are looked up. It answers an error only for want of memory.
+    /// live; that for a subnetwork by `NoSuchTier` or `NoSuchSubnetwork`, where none is stored; and a trace, a path, a check or a diagram as
+    /// `un_resolve` refuses it, by `DirtyGround` in consistent mode where a dirty area covers a node that is reached, or by `NotIsolable` where a
+    /// controller cannot be cut off. `steps` counts the stars that are looked up. It answers an error only for want of memory.
     pub fn answer<L>(
         &self,
         alloc: Global,

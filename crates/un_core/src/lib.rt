@@ -16,6 +16,7 @@ pub mod prepared;
 mod rule;
 mod update;
 mod validate;
+mod walks;
 
 pub use net::Net;
 pub use prepared::Prepared;

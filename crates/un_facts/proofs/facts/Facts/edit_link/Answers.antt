@@ -1,4 +1,5 @@
-use Rattle.std.proofs.Common.{◌≡◌, ℕ, List, [], None, sym, ap, ◌∙◌, subst}
+use Rattle.std.proofs.Common.{◌≡◌, ℕ, List, [], None, Some, sym, ap, ◌∙◌, subst}
+use Rattle.std.proofs.lemmas.Result.{err_from_is_err_and}
 use Rattle.std.specs.Arc.{arc_value}
 use Rattle.un_schema.specs.Sound.{IsCatalog}
 use Rattle.un_defs.specs.declared.row.Row.{Row}
@@ -15,6 +16,7 @@ use Rattle.un_tiers.specs.declared.setup.Setup.{Setup}
 use Rattle.un_facts.specs.Frames.{Framed}
 use Rattle.un_facts.specs.Known.{Known, known_of, setting, next_at, edited, linked}
 use Rattle.un_facts.specs.Standing.{IsKnown}
+use Rattle.un_facts.specs.Refusals.{refusal_of}
 use Rattle.un_facts.proofs.Edited.{link_rectangles}
 use Rattle.un_facts.proofs.Linked.{under, rules_aside, link_left}
 use Rattle.un_facts.proofs.Makeable.{made, link_word, link_refused, edited_known}
@@ -43,6 +45,23 @@ left_is alone K f rows before after view ids moment e word made =
     ap (λ (L : Known). linked L after) (sym view)
     ∙ ap (λ F. record { setup = f.setup; features = F }) (link_left alone f.setup f.rules rows before after ids moment e word made)
     ∙ ap (λ (L : Known). edited L ids moment e) view
+
+pub returns-in_err-assocs-clause-bad : goal.returns-in_err-assocs-clause-bad
+returns-in_err-assocs-clause-bad c =
+    let frame = arc_value c.self.inside.frame in
+    let S = frame.setup in
+    let setup_is = c.setup.ensures ∙ ap (λ (f : Framed). f.setup) c.deref.ensures in
+    let e = c.args.edit.now in
+    let rows = c.self.inside.rows in
+    let links = c.self.inside.assocs in
+    let K : Known = known_of frame rows links in
+    let r = c.in_err-assocs.field-0.0 in
+    let p = err_from_is_err_and c.from_residual.result c.from_residual.ensures.1 in
+    rw (p.1, p.2) (λ memory.
+    let due : link_refusal (setting S) (under rows links []) e ≡ Some r =
+    subst (λ (C : Setup). link_refusal (setting C) (under rows links []) e ≡ Some r) setup_is (c.in_err-assocs.ensures.bad memory) in
+    subst (λ (L : Known). refusal_of L e ≡ Some r) c.self.view_is
+    (link_refused K e c.requires.word (Some r) (rules_aside (setting S) rows links frame.rules [] e ∙ due)))
 
 pub with_assocs-requires : goal.with_assocs-requires
 with_assocs-requires c =
