@@ -14,6 +14,7 @@ ghost use Rattle.un_journal.specs.Books.{IsPrepared};
 ghost use Rattle.un_desk.specs.Desks.{IsDeskFault, IsMeetFault, IsSubmitted, counted};
 ghost use Rattle.un_desk.specs.Views.{IsViewFault};
 
+use crate::past::Opening;
 use core::mem::ManuallyDrop;
 use std::alloc::{AllocError, Global};
 use std::sync::{Arc, Mutex, Wait};
@@ -30,7 +31,8 @@ pub struct Desk<M: Machine, J: BoardName<M>>
 where
     Published<M, J>: Snapshot<State = Published<M, J>>,
 {
-    journal: Mutex<ManuallyDrop<Journal<M, J>>>,
+    pub(crate) journal: Mutex<ManuallyDrop<Journal<M, J>>>,
+    pub(crate) opening: Opening<M, J>,
 }
 
 /// Why a call returns no view.
@@ -63,9 +65,10 @@ where
         let Ok(state) = Arc::new(alloc, state) else {
             return Err(AllocError);
         };
-        let Ok(other) = Arc::try_clone(&state) else {
+        let (Ok(other), Ok(first)) = (Arc::try_clone(&state), Arc::try_clone(&state)) else {
             return Err(AllocError);
         };
+        let opening = Opening::new(first);
         let (board, all) = Board::<M, J>::open(rt, alloc, new_log, other, sessions)?;
         match Journal::<M, J>::open(alloc, board, state) {
             Ok(journal) => {
@@ -73,6 +76,7 @@ where
                 let journal = unsafe { ManuallyDrop::new_unchecked(journal) };
                 let desk = Desk {
                     journal: Mutex::new(journal),
+                    opening,
                 };
                 Ok((desk, all))
             }
@@ -174,7 +178,10 @@ where
 
     /// Ends the desk. It waits for readers. Views and sessions may be kept.
     pub fn close<R: Wait>(self, rt: &R) {
-        let Desk { journal } = self;
+        let Desk {
+            journal,
+            opening: _,
+        } = self;
         ManuallyDrop::into_inner(journal.into_inner()).close(rt);
     }
 }

@@ -1,4 +1,4 @@
-//! Tests of a desk, a journal and a board, with a counter for a machine.
+//! Tests of a desk, a journal, a board and a past, with a counter for a machine.
 #![tactic(auto)]
 
 #[cfg(test)]
@@ -9,5 +9,7 @@ mod counter;
 mod journal;
 #[cfg(test)]
 mod memory;
+#[cfg(test)]
+mod past;
 #[cfg(test)]
 mod threads;

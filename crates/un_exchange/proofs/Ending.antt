@@ -7,7 +7,7 @@ use Rattle.un_publish.specs.declared.session.Denied.{Denied}
 use Rattle.un_http.specs.declared.check.Check.{Check}
 use Rattle.un_http.specs.declared.check.Check.TheVariants.{BadHead, ManyHeaders, NotSupported, LongBody, NoLength}
 use Rattle.un_turns.specs.declared.request.Response.{Response}
-use Rattle.un_turns.specs.declared.request.Response.TheVariants.{Nothing, Accepted, Refused, Answer, Ahead, Denied as IsDenied, Memory}
+use Rattle.un_turns.specs.declared.request.Response.TheVariants.{Nothing, Accepted, Refused, Answer, PastAnswer, Ahead, NotYet, Denied as IsDenied, Memory}
 use Rattle.un_turns.specs.Truths.{all_denials}
 use Rattle.un_exchange.specs.declared.asked.Asked.{Asked}
 use Rattle.un_exchange.specs.declared.end.LinkEnd.TheVariants as end
@@ -30,7 +30,9 @@ module _ {R A : Type 0} where
   ends_denied close (Accepted v reply) d e = absurd (not_denied close d e)
   ends_denied close (Refused v reply) d e = absurd (not_denied close d e)
   ends_denied close (Answer v answer) d e = absurd (not_denied close d e)
+  ends_denied close (PastAnswer v answer) d e = absurd (not_denied close d e)
   ends_denied close (Ahead a) d e = absurd (not_denied close d e)
+  ends_denied close (NotYet a) d e = absurd (not_denied close d e)
   ends_denied close (IsDenied f) d e = cc e
   ends_denied close Memory d e = absurd (cc e)
 

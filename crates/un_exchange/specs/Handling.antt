@@ -5,9 +5,9 @@ use Rattle.un_http.specs.States.{Holding}
 use Rattle.un_http.specs.Answers.{given}
 use Rattle.un_turns.specs.Served.{IsServed}
 use Rattle.un_turns.specs.declared.request.Request.{Request}
-use Rattle.un_turns.specs.declared.request.Request.TheVariants.{Other, Command, Query}
+use Rattle.un_turns.specs.declared.request.Request.TheVariants.{Other, Command, Query, Past}
 use Rattle.un_turns.specs.declared.request.Response.{Response}
-use Rattle.un_turns.specs.declared.request.Response.TheVariants.{Nothing, Accepted, Refused, Answer, Ahead, Denied, Memory}
+use Rattle.un_turns.specs.declared.request.Response.TheVariants.{Nothing, Accepted, Refused, Answer, PastAnswer, Ahead, NotYet, Denied, Memory}
 use Rattle.un_exchange.specs.declared.asked.Asked.{Asked}
 use Rattle.un_exchange.specs.declared.end.LinkEnd.{LinkEnd}
 use Rattle.un_exchange.specs.declared.respond.Outgoing.{Outgoing}
@@ -15,11 +15,12 @@ use Rattle.un_exchange.specs.Exchanges.{Printing, Exchange, IsAsked, request_of,
 use Rattle.un_exchange.specs.Writing.{IsOutgoing, Writes}
 
 module _ {C Q : Type 0} where
-  -- a command or a query
+  -- a command, a query, or a query at a past version
   abbrev pub AsksSession : Request C Q → Type 0
   AsksSession Other = ⊥
   AsksSession (Command cmd) = ⊤
   AsksSession (Query query) = ⊤
+  AsksSession (Past at query) = ⊤
 
 module _ {R A : Type 0} where
   -- a response of the session, whose reply fits
@@ -28,9 +29,15 @@ module _ {R A : Type 0} where
   FitsIn fits (Accepted v reply) = fits reply
   FitsIn fits (Refused v reply) = fits reply
   FitsIn fits (Answer v answer) = ⊤
+  FitsIn fits (PastAnswer v answer) = ⊤
   FitsIn fits (Ahead a) = ⊤
+  FitsIn fits (NotYet a) = ⊤
   FitsIn fits (Denied d) = ⊤
   FitsIn fits Memory = ⊤
+
+  -- the response that is written: that of the session; or memory ran out when the answer at a past version was printed
+  abbrev pub IsWritten : Response R A → Response R A → Type 0
+  IsWritten response written = (written ≡ response) ⊎ ((v : ℕ) × (a : A) × (response ≡ PastAnswer v a) × (written ≡ Memory))
 
 module _ {M C R H K Q A : Type 0} where
   -- a request was handled, and this is to be written

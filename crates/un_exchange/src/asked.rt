@@ -9,4 +9,6 @@ pub enum Asked<C, Q> {
     Page(Page),
     Command(C),
     Query(Q),
+    /// The query at a past version: at the state after the first `at` entries of the log.
+    Past { at: u64, query: Q },
 }

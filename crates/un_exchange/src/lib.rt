@@ -12,7 +12,9 @@
 //! 4. the reply is printed, and the response is written.
 //!
 //! A command that was accepted must get its reply, so the reply is printed into room that was reserved when the link was
-//! opened, and writing a response allocates nothing. If memory runs out before step 3, the request did nothing.
+//! opened, and writing a response allocates nothing. If memory runs out before step 3, the request did nothing. The answer of
+//! a query at a past version is printed into memory of its own; if that runs out, the response says so, and the query has
+//! changed nothing but what the session has seen. The link keeps the past of its session, from the first such query on.
 //!
 //! What is shown is one statement over the whole link: the bytes that were read are these requests and a rest; each was
 //! handled by the session, in order; and the bytes that were written are their responses, in order, where a write did not

@@ -1,10 +1,11 @@
 //! All requests of a link.
-ghost use Rattle.std.specs.Prelude.{◌≡◌, ◌≤◌, [], Some, IfOk, vec_capacity};
+ghost use Rattle.std.specs.Prelude.{◌≡◌, ◌≤◌, [], Some, None, IfOk, vec_capacity};
 ghost use Rattle.un_io.specs.Outside.{Rose};
 ghost use Rattle.un_publish.specs.declared.session.Denied.{Denied};
 ghost use Rattle.un_exchange.specs.Links.{HasEnded, Proceeds, Serves};
 ghost use Rattle.un_exchange.specs.Writing.{check_end};
 ghost use Rattle.un_exchange.specs.Pages.{check_status};
+ghost use Rattle.un_turns.specs.Pasts.{IsKeptFor};
 
 use crate::end::LinkEnd;
 use crate::respond::respond;
@@ -14,6 +15,7 @@ use crate::status::Status;
 use std::alloc::{AllocError, Global};
 use std::sync::Wait;
 use std::thread::Threads;
+use un_asof::Past;
 use un_desk::desk::Desk;
 use un_http::{Check, Inbox, Next, next_request, one_more};
 use un_io::Link;
@@ -22,12 +24,14 @@ use un_publish::published::{BoardName, Published, Snapshot};
 use un_publish::session::Session;
 use un_turns::laws::{one_more_request, responses_are_truthful};
 
-// The room for the next request, for the head of its response, and for what is printed.
+// The room for the next request, for the head of its response, and for what is printed; and the past of the session, from
+// its first query at a past version on.
 #[derive(Drop)]
-struct Room {
+struct Room<M: Machine, J: BoardName<M>> {
     inbox: Inbox,
     head: Vec<u8>,
     printed: Vec<u8>,
+    past: Option<Past<M, J>>,
 }
 
 // How the link ends after a check that a request failed.
@@ -62,13 +66,15 @@ fn next_exchange<R: Wait + Threads + Sync, M: Machine, S: Service<M>, J: BoardNa
     service: &S,
     desk: &Desk<M, J>,
     session: &mut Session<M, J>,
-    room: &mut Room,
+    room: &mut Room<M, J>,
     link: &mut L,
 ) -> Option<LinkEnd>
 where
     Published<M, J>: Snapshot<State = Published<M, J>>,
     requires head { HEAD_ROOM ≤ vec_capacity room.old.head }
     requires printed { REPLY_ROOM ≤ vec_capacity room.old.printed }
+    requires past { IsKeptFor M.step J.opening room.old.past session.old.seen }
+    ensures past { IsKeptFor M.step J.opening room.new.past session.new.seen }
     ensures proceeds { Proceeds M.step J.opening S.least S.answer S.asks S.printing
         session.old session.new (L.left link.old) (L.left link.new)
         (L.taken link.old) (L.taken link.new) room.old.inbox.held room.new.inbox.held result }
@@ -91,6 +97,7 @@ where
                 service,
                 desk,
                 session,
+                &mut room.past,
                 &room.inbox,
                 &mut room.printed,
             );
@@ -114,7 +121,7 @@ fn serve<R: Wait + Threads + Sync, M: Machine, S: Service<M>, J: BoardName<M>, L
     service: &S,
     desk: &Desk<M, J>,
     session: &mut Session<M, J>,
-    room: &mut Room,
+    room: &mut Room<M, J>,
     link: &mut L,
 ) -> LinkEnd
 where
@@ -122,6 +129,7 @@ where
     requires head { HEAD_ROOM ≤ vec_capacity room.old.head }
     requires printed { REPLY_ROOM ≤ vec_capacity room.old.printed }
     requires empty { room.old.inbox.held ≡ [] }
+    requires past { IsKeptFor M.step J.opening room.old.past session.old.seen }
     ensures served { HasEnded M.step J.opening S.least S.answer S.asks S.printing
         session.old session.new (L.left link.old) (L.left link.new)
         (L.taken link.old) (L.taken link.new) result }
@@ -143,15 +151,17 @@ where
 }
 
 // The room for a link.
-fn take_room(alloc: Global) -> Result<Room, AllocError>
+fn take_room<M: Machine, J: BoardName<M>>(alloc: Global) -> Result<Room<M, J>, AllocError>
     ensures held { IfOk result (λ room. room.inbox.held ≡ []) }
     ensures head { IfOk result (λ room. HEAD_ROOM ≤ vec_capacity room.head) }
     ensures printed { IfOk result (λ room. REPLY_ROOM ≤ vec_capacity room.printed) }
+    ensures past { IfOk result (λ room. room.past ≡ None) }
 {
     Ok(Room {
         inbox: Inbox::new(alloc)?,
         head: Vec::with_capacity(alloc, HEAD_ROOM)?,
         printed: Vec::with_capacity(alloc, REPLY_ROOM)?,
+        past: None,
     })
 }
 
@@ -184,7 +194,7 @@ where
     let _own = session.own();
     let _denied = session.denied();
     responses_are_truthful::<M, S, J>();
-    match take_room(alloc) {
+    match take_room::<M, J>(alloc) {
         Ok(mut room) => {
             serve::<R, M, S, J, L>(rt, alloc, service, desk, session, &mut room, link)
         }

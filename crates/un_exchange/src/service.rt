@@ -22,7 +22,7 @@ pub trait Service<M: Machine>: Answers<M> {
     // What a method, a path and a body ask for.
     ghost asks: { List ℕ → List ℕ → List ℕ → AskedOf M.Cmd Self.Query → Type 0 };
 
-    // What replies, answers and refusals of later versions are printed as.
+    // What replies, answers, past answers and refusals of later versions are printed as.
     ghost printing: { Printing M.Reply Self.Answer };
 
     // A reply that fits in the room for it.
@@ -57,7 +57,19 @@ pub trait Service<M: Machine>: Answers<M> {
         ensures page { conflict_page (printing.ahead ahead.now.seen ahead.now.latest) ≡ conflict_page out.new.items }
         ensures capacity { vec_capacity out.old ≤ vec_capacity out.new };
 
+    /// Prints the refusal of a query at a past version that the log doesn't have yet, whose status is `Conflict`. `seen` of
+    /// it is the version. It allocates nothing.
+    fn print_not_yet(ahead: &Ahead, out: &mut Vec<u8>)
+        requires empty { out.old.items ≡ [] }
+        requires room { REPLY_ROOM ≤ vec_capacity out.old }
+        ensures page { conflict_page (printing.not_yet ahead.now.seen ahead.now.latest) ≡ conflict_page out.new.items }
+        ensures capacity { vec_capacity out.old ≤ vec_capacity out.new };
+
     /// What an answer is printed as.
     fn answer_page(answer: Self::Answer) -> Page
         ensures { result ≡ printing.answer answer };
+
+    /// What an answer at a past version is printed as, with the version of its response.
+    fn past_page(alloc: Global, version: u64, answer: Self::Answer) -> Result<Page, AllocError>
+        ensures { IfOk result (λ page. page ≡ printing.past version answer) };
 }

@@ -14,7 +14,7 @@ pub enum Status {
     NotFound,
     /// 405: the route takes GET if `allow_get`, and otherwise POST.
     WrongMethod { allow_get: bool },
-    /// 409: the query asks for more entries of the log than there are.
+    /// 409: the query asks for more entries of the log than there are, or for a past version over them.
     Conflict,
     /// 411: a POST without a length.
     LengthRequired,

@@ -101,10 +101,11 @@ where
         self.entries.len() as u64
     }
 
-    /// The entries of the log after the first `from`.
+    /// The entries of the log after the first `from`. The log is legal.
     pub fn entries(&self, from: u64) -> &[Entry<M>]
         requires { from ≤ length self.now.log }
-        ensures { result.now ≡ drop from self.now.log }
+        ensures entries { result.now ≡ drop from self.now.log }
+        ensures reaches { Reaches M.step J.opening self.now.log self.now.state }
     {
         &self.entries.as_slice()[from as usize..]
     }

@@ -1,11 +1,17 @@
 -- The count of denials after each turn.
-use Rattle.std.proofs.Common.{◌≡◌, ◌⊎◌, ◌<◌, ◌+◌, ◌-◌, ◌^◌, ℕ, min, List, [], ◌∷◌, refl, ap, ◌∙◌, inl, inr, arith}
+use Rattle.std.proofs.Common.{◌≡◌, ◌⊎◌, ◌<◌, ◌+◌, ◌-◌, ◌^◌, ℕ, min, List, [], ◌∷◌, refl, ap, ◌∙◌, subst, inl, inr, arith}
 use Rattle.un_publish.specs.Models.{SessionModel, risen}
 use Rattle.un_publish.specs.declared.session.Denied.TheVariants.{NoCopy, Book, Long}
 use Rattle.un_publish.specs.declared.session.SessionFault.TheVariants.{Denied as Refused, Memory}
+use Rattle.un_publish.specs.declared.session.View.{View}
+use Rattle.un_desk.specs.Desks.{counted}
+use Rattle.un_desk.specs.declared.desk.ViewFault.{ViewFault}
 use Rattle.un_desk.specs.declared.desk.ViewFault.TheVariants.{Ahead, Denied as NotTaught, Memory as NoMemory}
-use Rattle.un_turns.specs.Turns.{Turn, Passed, Decided, Undecided, Unprepared, Answered, Unanswered, IsTurn}
-use Rattle.un_turns.specs.Conversations.{denials_of, denials, DenialLaw}
+use Rattle.un_desk.specs.declared.past.PastFault.{PastFault}
+use Rattle.un_desk.specs.declared.past.PastFault.TheVariants.{Ahead as PastAhead, Denied as PastDenied, Memory as PastMemory}
+use Rattle.un_desk.specs.Pasts.{IsPastFault}
+use Rattle.un_turns.specs.Turns.{Turn, Passed, Decided, Undecided, Unprepared, Answered, Unanswered, Recalled, Unread, Unrecalled, IsTurn, IsAnswered, IsUnanswered}
+use Rattle.un_turns.specs.Conversations.{denials_of, denials, past_denials, view_denials, DenialLaw}
 
 -- a count after none or one more
 abbrev Counts : ℕ → ℕ → ℕ → Type 0
@@ -23,6 +29,33 @@ module _ {M C R H K : Type 0} where
   of : {s t : SessionModel M C R H K} → s ≡ t → s.denied ≡ t.denied
   of h = ap (λ (u : SessionModel M C R H K). u.denied) h
 
+  past_denied : (s t : SessionModel M C R H K) (at : ℕ) (f : PastFault) → IsPastFault (counted s) t at f → Counts (past_denials f) s.denied t.denied
+  past_denied s t at (PastAhead a) h = inl (refl, of h.1)
+  past_denied s t at (PastDenied NoCopy) h = inr (refl, of h)
+  past_denied s t at (PastDenied (Long a b)) h = inr (refl, of h.0)
+  past_denied s t at (PastDenied (Book a b)) h = absurd h
+  past_denied s t at PastMemory h = inl (refl, of h)
+
+module _ {M C R H K : Type 0} (step : M → C → (M × (R × K)) ⊎ R) (opening : List M) where
+  answered_denied : (s t : SessionModel M C R H K) (n : ℕ) (v : View M) → IsAnswered step opening s t n v → t.denied ≡ s.denied
+  answered_denied s t n v h =
+      elim h.1 as (λ _. t.denied ≡ s.denied) [ inl r ↦ of r.kept | inr w ↦ of w.2.kept ∙ of w.1.read.kept ]
+
+  unanswered_denied : (s t : SessionModel M C R H K) (n : ℕ) (f : ViewFault) → IsUnanswered step opening s t n f → Counts (view_denials f) s.denied t.denied
+  unanswered_denied s t n (Ahead a) (inl (Refused d, e, r, p)) = absurd (cc e)
+  unanswered_denied s t n (Ahead a) (inl (Memory, e, r, p)) = absurd (cc e)
+  unanswered_denied s t n (Ahead a) (inr (m, o, v, p)) = inl (refl, of v.1 ∙ of o.read.kept)
+  unanswered_denied s t n (NotTaught c) (inl (Refused NoCopy, e, r, p)) = inr (refl, of r)
+  unanswered_denied s t n (NotTaught c) (inl (Refused (Long a b), e, r, p)) = absurd r
+  unanswered_denied s t n (NotTaught c) (inl (Refused (Book a b), e, r, p)) = absurd r
+  unanswered_denied s t n (NotTaught c) (inl (Memory, e, r, p)) = absurd (cc e)
+  unanswered_denied s t n (NotTaught NoCopy) (inr (m, o, v, p)) = inr (refl, of v ∙ ap risen (of o.read.kept))
+  unanswered_denied s t n (NotTaught (Long a b)) (inr (m, o, v, p)) = inr (refl, of v.0 ∙ ap risen (of o.read.kept))
+  unanswered_denied s t n (NotTaught (Book a b)) (inr (m, o, v, p)) = absurd v
+  unanswered_denied s t n NoMemory (inl (Refused d, e, r, p)) = absurd (cc e)
+  unanswered_denied s t n NoMemory (inl (Memory, e, r, p)) = inl (refl, of r)
+  unanswered_denied s t n NoMemory (inr (m, o, v, p)) = inl (refl, of v ∙ of o.read.kept)
+
 module _ {M C R H K Q : Type 0} (step : M → C → (M × (R × K)) ⊎ R) (opening : List M) (least : Q → ℕ) where
   turn_denied : (s t : SessionModel M C R H K) (u : Turn M C R H K Q) → IsTurn step opening least s u t → Counts (denials_of u) s.denied t.denied
   turn_denied s t Passed h = inl (refl, of h)
@@ -37,20 +70,12 @@ module _ {M C R H K Q : Type 0} (step : M → C → (M × (R × K)) ⊎ R) (open
   turn_denied s t (Unprepared cmd (Refused (Long a b))) h = absurd h.0
   turn_denied s t (Unprepared cmd (Refused (Book a b))) h = absurd h.0
   turn_denied s t (Answered query v) h =
-      elim h.1 as (λ _. Counts 0 s.denied t.denied) [ inl r ↦ inl (refl, of r.kept) | inr w ↦ inl (refl, of w.2.kept ∙ of w.1.read.kept) ]
-  turn_denied s t (Unanswered query (Ahead a)) (inl (Refused d, e, r, p)) = absurd (cc e)
-  turn_denied s t (Unanswered query (Ahead a)) (inl (Memory, e, r, p)) = absurd (cc e)
-  turn_denied s t (Unanswered query (Ahead a)) (inr (m, o, v, p)) = inl (refl, of v.1 ∙ of o.read.kept)
-  turn_denied s t (Unanswered query (NotTaught c)) (inl (Refused NoCopy, e, r, p)) = inr (refl, of r)
-  turn_denied s t (Unanswered query (NotTaught c)) (inl (Refused (Long a b), e, r, p)) = absurd r
-  turn_denied s t (Unanswered query (NotTaught c)) (inl (Refused (Book a b), e, r, p)) = absurd r
-  turn_denied s t (Unanswered query (NotTaught c)) (inl (Memory, e, r, p)) = absurd (cc e)
-  turn_denied s t (Unanswered query (NotTaught NoCopy)) (inr (m, o, v, p)) = inr (refl, of v ∙ ap risen (of o.read.kept))
-  turn_denied s t (Unanswered query (NotTaught (Long a b))) (inr (m, o, v, p)) = inr (refl, of v.0 ∙ ap risen (of o.read.kept))
-  turn_denied s t (Unanswered query (NotTaught (Book a b))) (inr (m, o, v, p)) = absurd v
-  turn_denied s t (Unanswered query NoMemory) (inl (Refused d, e, r, p)) = absurd (cc e)
-  turn_denied s t (Unanswered query NoMemory) (inl (Memory, e, r, p)) = inl (refl, of r)
-  turn_denied s t (Unanswered query NoMemory) (inr (m, o, v, p)) = inl (refl, of v ∙ of o.read.kept)
+      inl (refl, answered_denied step opening s t (least query) v h)
+  turn_denied s t (Unanswered query f) h = unanswered_denied step opening s t (least query) f h
+  turn_denied s t (Recalled query at v w) h = inl (refl, of h.past.kept ∙ answered_denied step opening s h.between (least query) v h.first)
+  turn_denied s t (Unread query at f) h = unanswered_denied step opening s t (least query) f h
+  turn_denied s t (Unrecalled query at f) h =
+      subst (λ (k : ℕ). Counts (past_denials f) k t.denied) (answered_denied step opening s h.between (least query) h.view h.first) (past_denied h.between t at f h.fault)
 
   pub denials_counted : DenialLaw H step opening least
   denials_counted s t [] lt h = let e = of h in omega (arith, e, lt)

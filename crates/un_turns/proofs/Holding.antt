@@ -14,9 +14,11 @@ use Rattle.un_journal.specs.declared.receipt.Receipt.{Receipt}
 use Rattle.un_desk.specs.Desks.{IsSubmitted, counted}
 use Rattle.un_desk.specs.declared.desk.ViewFault.{ViewFault}
 use Rattle.un_desk.specs.declared.desk.ViewFault.TheVariants.{Ahead, Denied as NotTaught, Memory as NoMemory}
-use Rattle.un_turns.specs.Turns.{Turn, Passed, Decided, Undecided, Unprepared, Answered, Unanswered, IsTurn, IsRead, IsAnswered, IsUnanswered}
-use Rattle.un_turns.specs.Conversations.{Conversed, IsDecidedAt, IsLastEntry, IsAheadOf, IsTrueTurn, AreTrueTurns, TrueTurnsLaw}
-use Rattle.un_turns.proofs.Turning.{turn_number, all_seen}
+use Rattle.un_desk.specs.declared.past.PastFault.{PastFault}
+use Rattle.un_desk.specs.declared.past.PastFault.TheVariants.{Ahead as PastAhead, Denied as PastDenied, Memory as PastMemory}
+use Rattle.un_turns.specs.Turns.{Turn, Passed, Decided, Undecided, Unprepared, Answered, Unanswered, Recalled, Unread, Unrecalled, IsTurn, IsRead, IsAnswered, IsUnanswered, IsUnrecalled}
+use Rattle.un_turns.specs.Conversations.{Conversed, IsDecidedAt, IsLastEntry, IsAheadOf, IsNotYet, IsTrueTurn, AreTrueTurns, TrueTurnsLaw}
+use Rattle.un_turns.proofs.Turning.{turn_number, all_seen, recalled_seen}
 
 take_prefix : {A : Type 0} (n : ℕ) (xs ys : List A) → IsPrefix xs ys → n ≤ length xs → take n ys ≡ take n xs
 take_prefix n xs ys p le = ap (λ l. take n l) (sym p.1) ∙ take-append-le n xs p.0 le
@@ -29,6 +31,11 @@ ahead_longer : (n k l : ℕ) (f : ViewFault) → k ≤ l → IsAheadOf n k f →
 ahead_longer n k l (Ahead a) le h = (h.0, omega (arith, h.1, le), h.2)
 ahead_longer n k l (NotTaught d) le h = tt
 ahead_longer n k l NoMemory le h = tt
+
+not_yet_longer : (n k l : ℕ) (f : PastFault) → k ≤ l → IsNotYet n k f → IsNotYet n l f
+not_yet_longer n k l (PastAhead a) le h = (h.0, omega (arith, h.1, le), h.2)
+not_yet_longer n k l (PastDenied d) le h = tt
+not_yet_longer n k l PastMemory le h = tt
 
 module _ {M C R H K : Type 0} (step : M → C → (M × (R × K)) ⊎ R) (opening : List M) where
   decided_holds : (s t : SessionModel M C R H K) (cmd : C) (r : Receipt M C R H K) → IsSubmitted step opening s t cmd r
@@ -75,6 +82,11 @@ module _ {M C R H K : Type 0} (step : M → C → (M × (R × K)) ⊎ R) (openin
   unanswered_holds s t n (Ahead a) (inl (Memory, e, r, p)) = absurd (cc e)
   unanswered_holds s t n (Ahead a) (inr (m, o, v, p)) = (v.0.0, omega (arith, v.0.1), omega (arith, v.0.1, v.0.2))
 
+  unrecalled_holds : (s t : SessionModel M C R H K) (n at : ℕ) (f : PastFault) → IsUnrecalled step opening s t n at f → IsNotYet at (length t.seen) f
+  unrecalled_holds s t n at (PastDenied d) h = tt
+  unrecalled_holds s t n at PastMemory h = tt
+  unrecalled_holds s t n at (PastAhead a) h = let v = h.fault in (v.0.0, omega (arith, v.0.1), omega (arith, v.0.1, v.0.2))
+
 module _ {M C R H K Q : Type 0} (step : M → C → (M × (R × K)) ⊎ R) (opening : List M) (least : Q → ℕ) where
   turn_holds : (s t : SessionModel M C R H K) (u : Turn M C R H K Q) → IsTurn step opening least s u t → IsTrueTurn step opening least s.number t.seen u
   turn_holds s t Passed h = tt
@@ -83,6 +95,11 @@ module _ {M C R H K Q : Type 0} (step : M → C → (M × (R × K)) ⊎ R) (open
   turn_holds s t (Unprepared cmd f) h = tt
   turn_holds s t (Answered query v) h = answered_holds step opening s t (least query) v h
   turn_holds s t (Unanswered query f) h = unanswered_holds step opening s t (least query) f h
+  turn_holds s t (Recalled query at v w) h =
+      let r = recalled_seen step opening s t (least query) at v w h in
+      (h.first.0, r.1, h.past.version, r.2, h.past.after.1)
+  turn_holds s t (Unread query at f) h = unanswered_holds step opening s t (least query) f h
+  turn_holds s t (Unrecalled query at f) h = unrecalled_holds step opening s t (least query) at f h
 
   holds_longer : (number : ℕ) (xs ys : List (Entry M C R H K)) (u : Turn M C R H K Q) → IsPrefix xs ys → IsTrueTurn step opening least number xs u → IsTrueTurn step opening least number ys u
   holds_longer number xs ys Passed p h = tt
@@ -95,6 +112,11 @@ module _ {M C R H K Q : Type 0} (step : M → C → (M × (R × K)) ⊎ R) (open
       let longer = prefix_length xs ys p in
       (h.0, omega (arith, h.1, longer), subst (λ (l : List (Entry M C R H K)). Reaches step opening l (arc_value v.state)) (sym (take_prefix v.version xs ys p h.1)) h.2)
   holds_longer number xs ys (Unanswered query f) p h = ahead_longer (least query) (length xs) (length ys) f (prefix_length xs ys p) h
+  holds_longer number xs ys (Recalled query at v w) p h =
+      let longer = prefix_length xs ys p in
+      (h.0, omega (arith, h.1, longer), h.2, omega (arith, h.3, longer), subst (λ (l : List (Entry M C R H K)). Reaches step opening l (arc_value w.state)) (sym (take_prefix at xs ys p h.3)) h.4)
+  holds_longer number xs ys (Unread query at f) p h = ahead_longer (least query) (length xs) (length ys) f (prefix_length xs ys p) h
+  holds_longer number xs ys (Unrecalled query at f) p h = not_yet_longer at (length xs) (length ys) f (prefix_length xs ys p) h
 
   hold_on : (number : ℕ) (s t : SessionModel M C R H K) (us : List (Turn M C R H K Q)) → s.number ≡ number → Conversed step opening least s us t → AreTrueTurns step opening least number t.seen us
   hold_on number s t [] e h = tt

@@ -9,3 +9,5 @@ pub mod Denying
 pub mod Truths
 pub mod Prepared
 pub mod Replying
+pub mod Losing
+pub mod Recalling

@@ -12,7 +12,7 @@ use Rattle.un_journal.specs.Books.{entry}
 use Rattle.un_journal.specs.declared.receipt.Receipt.{Receipt}
 use Rattle.un_desk.specs.Desks.{IsSubmitted}
 use Rattle.un_turns.specs.Own.{own_entries, IsWithin}
-use Rattle.un_turns.specs.Turns.{Turn, Passed, Decided, Undecided, Unprepared, Answered, Unanswered, IsTurn}
+use Rattle.un_turns.specs.Turns.{Turn, Passed, Decided, Undecided, Unprepared, Answered, Unanswered, Recalled, Unread, Unrecalled, IsTurn}
 use Rattle.un_turns.specs.Conversations.{Conversed, accepted_by, accepted_of, waits_of, decision, OwnLaw}
 use Rattle.un_turns.proofs.Turning.{IsMove, move, turn_moves}
 
@@ -98,6 +98,9 @@ module _ {M C R H K Q : Type 0} (step : M → C → (M × (R × K)) ⊎ R) (open
   turn_grows s t (Unprepared cmd f) w h = grows_none s t 0 (turn_moves step opening least 0 s t (Unprepared cmd f) (omega arith) h) w
   turn_grows s t (Answered query v) w h = grows_none s t (waits_of {M = M} {C = C} {R = R} {H = H} {K = K} least 0 (Answered query v)) (turn_moves step opening least 0 s t (Answered query v) (omega arith) h) w
   turn_grows s t (Unanswered query f) w h = grows_none s t (waits_of {M = M} {C = C} {R = R} {H = H} {K = K} least 0 (Unanswered query f)) (turn_moves step opening least 0 s t (Unanswered query f) (omega arith) h) w
+  turn_grows s t (Recalled query at u v) w h = grows_none s t (waits_of {M = M} {C = C} {R = R} {H = H} {K = K} least 0 (Recalled query at u v)) (turn_moves step opening least 0 s t (Recalled query at u v) (omega arith) h) w
+  turn_grows s t (Unread query at f) w h = grows_none s t (waits_of {M = M} {C = C} {R = R} {H = H} {K = K} least 0 (Unread query at f)) (turn_moves step opening least 0 s t (Unread query at f) (omega arith) h) w
+  turn_grows s t (Unrecalled query at f) w h = grows_none s t (waits_of {M = M} {C = C} {R = R} {H = H} {K = K} least 0 (Unrecalled query at f)) (turn_moves step opening least 0 s t (Unrecalled query at f) (omega arith) h) w
 
   pub all_grow : (s t : SessionModel M C R H K) (us : List (Turn M C R H K Q)) → IsWithin s → Conversed step opening least s us t → Grows s t (flat_map accepted_of us)
   all_grow s t [] w h = record {

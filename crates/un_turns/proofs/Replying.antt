@@ -1,5 +1,5 @@
 -- The reply in a response is that of a step.
-use Rattle.std.proofs.Common.{◌≡◌, ◌⊎◌, ℕ, List, sym, inl, inr, subst}
+use Rattle.std.proofs.Common.{◌≡◌, ◌⊎◌, ℕ, max, List, sym, inl, inr, subst}
 use Rattle.std.specs.Arc.{arc_value}
 use Rattle.un_publish.specs.Models.{SessionModel}
 use Rattle.un_publish.specs.declared.session.SessionFault.{SessionFault}
@@ -11,9 +11,11 @@ use Rattle.un_desk.specs.declared.desk.ViewFault.TheVariants.{Ahead as BehindVie
 use Rattle.un_turns.specs.declared.request.Request.{Request}
 use Rattle.un_turns.specs.declared.request.Request.TheVariants.{Command}
 use Rattle.un_turns.specs.declared.request.Response.{Response}
-use Rattle.un_turns.specs.declared.request.Response.TheVariants.{Nothing, Answer, Ahead, Denied, Memory as NoRoom}
-use Rattle.un_turns.specs.Turns.{Turn, Passed, Decided, Undecided, Unprepared, Answered, Unanswered, IsTurn}
-use Rattle.un_turns.specs.Served.{IsResponseOf, IsReplyOf, receipt_response, fault_response, view_response}
+use Rattle.un_turns.specs.declared.request.Response.TheVariants.{Nothing, Answer, PastAnswer, Ahead, NotYet, Denied, Memory as NoRoom}
+use Rattle.un_desk.specs.declared.past.PastFault.{PastFault}
+use Rattle.un_desk.specs.declared.past.PastFault.TheVariants.{Ahead as PastAhead, Denied as PastDenied, Memory as PastMemory}
+use Rattle.un_turns.specs.Turns.{Turn, Passed, Decided, Undecided, Unprepared, Answered, Unanswered, Recalled, Unread, Unrecalled, IsTurn}
+use Rattle.un_turns.specs.Served.{IsResponseOf, IsReplyOf, receipt_response, fault_response, view_response, past_response}
 use Rattle.un_turns.specs.Truths.{ReplyLaw}
 
 module _ {M C R K Q A : Type 0} (step : M → C → (M × (R × K)) ⊎ R) where
@@ -29,6 +31,11 @@ module _ {M C R K Q A : Type 0} (step : M → C → (M × (R × K)) ⊎ R) where
   view_reply q r (BehindView a) e = at_equal q r (Ahead a) e tt
   view_reply q r (NotTaught d) e = at_equal q r (Denied d) e tt
   view_reply q r NoView e = at_equal q r NoRoom e tt
+
+  past_reply : (q : Request C Q) (r : Response R A) (f : PastFault) → r ≡ past_response f → IsReplyOf step q r
+  past_reply q r (PastAhead a) e = at_equal q r (NotYet a) e tt
+  past_reply q r (PastDenied d) e = at_equal q r (Denied d) e tt
+  past_reply q r PastMemory e = at_equal q r NoRoom e tt
 
 module _ {M C R H K Q A : Type 0} (step : M → C → (M × (R × K)) ⊎ R) (opening : List M) (least : Q → ℕ) (answer : M → Q → A) where
   decided_reply : (s t : SessionModel M C R H K) (q : Request C Q) (cmd : C) (r : Receipt M C R H K) → q ≡ Command cmd → IsSubmitted step opening s t cmd r → IsReplyOf {A = A} step q (receipt_response r)
@@ -46,6 +53,9 @@ module _ {M C R H K Q A : Type 0} (step : M → C → (M × (R × K)) ⊎ R) (op
   turn_reply s t q (Unprepared cmd f) r h e = fault_reply step q r f e.1
   turn_reply s t q (Answered query v) r h e = at_equal step q r (Answer v.version (answer (arc_value v.state) query)) e.1 tt
   turn_reply s t q (Unanswered query f) r h e = view_reply step q r f e.1
+  turn_reply s t q (Recalled query at v w) r h e = at_equal step q r (PastAnswer (max v.version at) (answer (arc_value w.state) query)) e.1 tt
+  turn_reply s t q (Unread query at f) r h e = view_reply step q r f e.1
+  turn_reply s t q (Unrecalled query at f) r h e = past_reply step q r f e.1
 
   pub replies_are_steps : ReplyLaw H step opening least answer
   replies_are_steps s t request response h = turn_reply s t request h.turn response h.is h.responds

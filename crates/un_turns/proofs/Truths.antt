@@ -1,6 +1,6 @@
 -- What the turns do and tell, said of the requests and responses.
 use Rattle.un_publish.specs.Models.{SessionModel}
-use Rattle.std.proofs.Common.{◌≡◌, ◌⊎◌, ◌≤◌, ◌+◌, ◌-◌, ◌^◌, ℕ, min, Bool, true, false, List, [], ◌∷◌, ◌++◌, length, take, refl, ap, sym, ◌∙◌, subst, inl, inr, arith}
+use Rattle.std.proofs.Common.{◌≡◌, ◌⊎◌, ◌≤◌, ◌+◌, ◌-◌, ◌^◌, ℕ, max, min, Bool, true, false, List, [], ◌∷◌, ◌++◌, length, take, refl, ap, sym, ◌∙◌, subst, inl, inr, arith}
 use Rattle.std.specs.Prelude.{flat_map}
 use Rattle.std.specs.Arc.{arc_value}
 use Rattle.un_machine.specs.declared.Entry.{Entry}
@@ -10,16 +10,18 @@ use Rattle.un_journal.specs.declared.receipt.Receipt.{Receipt}
 use Rattle.un_desk.specs.declared.desk.ViewFault.{ViewFault}
 use Rattle.un_desk.specs.declared.desk.ViewFault.TheVariants.{Ahead as BehindView, Denied as NotTaught, Memory as NoView}
 use Rattle.un_turns.specs.declared.request.Request.{Request}
-use Rattle.un_turns.specs.declared.request.Request.TheVariants.{Other, Command, Query}
+use Rattle.un_turns.specs.declared.request.Request.TheVariants.{Other, Command, Query, Past}
 use Rattle.un_turns.specs.declared.request.Response.{Response}
-use Rattle.un_turns.specs.declared.request.Response.TheVariants.{Nothing, Answer, Ahead, Memory}
-use Rattle.un_turns.specs.Turns.{Turn, Passed, Decided, Undecided, Unprepared, Answered, Unanswered, IsTurn, IsAnswered, IsUnanswered}
+use Rattle.un_turns.specs.declared.request.Response.TheVariants.{Nothing, Answer, PastAnswer, Ahead, NotYet, Memory}
+use Rattle.un_desk.specs.declared.past.PastFault.{PastFault}
+use Rattle.un_desk.specs.declared.past.PastFault.TheVariants.{Ahead as PastAhead, Denied as PastDenied, Memory as PastMemory}
+use Rattle.un_turns.specs.Turns.{Turn, Passed, Decided, Undecided, Unprepared, Answered, Unanswered, Recalled, Unread, Unrecalled, IsTurn, IsAnswered, IsUnanswered, IsRecalled, IsUnrecalled}
 use Rattle.un_publish.specs.declared.session.View.{View}
 use Rattle.un_turns.proofs.Holding.{decided_here}
 use Rattle.un_turns.specs.Conversations.{IsTrueTurn, AreTrueTurns, IsDecidedAt, Rises, versions_of, accepted_of, denials_of, denials, waits_of, waits_due, known_after, Conversed}
-use Rattle.un_turns.specs.Served.{Exchange, requests_of, turns_of, responses_of, IsResponseOf, AreResponses, receipt_response, fault_response, view_response}
+use Rattle.un_turns.specs.Served.{Exchange, requests_of, turns_of, responses_of, IsResponseOf, AreResponses, receipt_response, fault_response, view_response, past_response}
 use Rattle.un_turns.specs.Truths.{versions_in, denials_in, known_in, waits_in, accepted_in, all_accepted, all_waits, all_denials, IsTrueOf, AreTrueOf, IsTrueAt, AreTrueFrom, IsTruthful, TruthLaw}
-use Rattle.un_turns.proofs.Turning.{all_seen, versions_rise, turn_seen, turn_number}
+use Rattle.un_turns.proofs.Turning.{all_seen, versions_rise, turn_seen, turn_number, recalled_seen}
 use Rattle.un_turns.proofs.Owning.{all_grow}
 use Rattle.un_turns.proofs.Waiting.{waits_bounded}
 use Rattle.un_turns.proofs.Denying.{denials_counted}
@@ -55,10 +57,21 @@ module _ {M C R H K Q A : Type 0} where
   unanswered_agrees query (NotTaught d) = record { versions = refl; denials = refl; known = λ k. refl; accepted = refl; waits = λ l k. omega arith }
   unanswered_agrees query NoView = record { versions = refl; denials = refl; known = λ k. refl; accepted = refl; waits = λ l k. omega arith }
 
+  unread_agrees : (query : Q) (at : ℕ) (f : ViewFault) → Agrees (exchange (Past at query) (Unread query at f) (view_response f))
+  unread_agrees query at (BehindView a) = record { versions = refl; denials = refl; known = λ k. refl; accepted = refl; waits = λ l k. omega arith }
+  unread_agrees query at (NotTaught d) = record { versions = refl; denials = refl; known = λ k. refl; accepted = refl; waits = λ l k. omega arith }
+  unread_agrees query at NoView = record { versions = refl; denials = refl; known = λ k. refl; accepted = refl; waits = λ l k. omega arith }
+
+  unrecalled_agrees : (query : Q) (at : ℕ) (f : PastFault) → Agrees (exchange (Past at query) (Unrecalled query at f) (past_response f))
+  unrecalled_agrees query at (PastAhead a) = record { versions = refl; denials = refl; known = λ k. refl; accepted = refl; waits = λ l k. omega arith }
+  unrecalled_agrees query at (PastDenied d) = record { versions = refl; denials = refl; known = λ k. refl; accepted = refl; waits = λ l k. omega arith }
+  unrecalled_agrees query at PastMemory = record { versions = refl; denials = refl; known = λ k. refl; accepted = refl; waits = λ l k. omega arith }
+
   memory_agrees : (request : Request C Q) → Agrees (exchange request Passed Memory)
   memory_agrees Other = record { versions = refl; denials = refl; known = λ k. refl; accepted = refl; waits = λ l k. omega arith }
   memory_agrees (Command cmd) = record { versions = refl; denials = refl; known = λ k. refl; accepted = refl; waits = λ l k. omega arith }
   memory_agrees (Query query) = record { versions = refl; denials = refl; known = λ k. refl; accepted = refl; waits = λ l k. omega arith }
+  memory_agrees (Past at query) = record { versions = refl; denials = refl; known = λ k. refl; accepted = refl; waits = λ l k. omega arith }
 
   -- an exchange at an equal request and an equal response
   same_exchange : (P : Exchange M C R H K Q A → Type 0) (q q' : Request C Q) (u : Turn M C R H K Q) (r r' : Response R A) → q ≡ q' → r ≡ r' → P (exchange q' u r') → P (exchange q u r)
@@ -72,6 +85,9 @@ module _ {M C R H K Q A : Type 0} where
   agrees answer q (Unprepared cmd f) r h = same_exchange (λ x. Agrees x) q (Command cmd) (Unprepared cmd f) r (fault_response f) h.0 h.1 (unprepared_agrees cmd f)
   agrees answer q (Answered query v) r h = same_exchange (λ x. Agrees x) q (Query query) (Answered query v) r (Answer v.version (answer (arc_value v.state) query)) h.0 h.1 (record { versions = refl; denials = refl; known = λ k. refl; accepted = refl; waits = λ l k. omega arith })
   agrees answer q (Unanswered query f) r h = same_exchange (λ x. Agrees x) q (Query query) (Unanswered query f) r (view_response f) h.0 h.1 (unanswered_agrees query f)
+  agrees answer q (Recalled query at v w) r h = same_exchange (λ x. Agrees x) q (Past at query) (Recalled query at v w) r (PastAnswer (max v.version at) (answer (arc_value w.state) query)) h.0 h.1 (record { versions = refl; denials = refl; known = λ k. refl; accepted = refl; waits = λ l k. omega arith })
+  agrees answer q (Unread query at f) r h = same_exchange (λ x. Agrees x) q (Past at query) (Unread query at f) r (view_response f) h.0 h.1 (unread_agrees query at f)
+  agrees answer q (Unrecalled query at f) r h = same_exchange (λ x. Agrees x) q (Past at query) (Unrecalled query at f) r (past_response f) h.0 h.1 (unrecalled_agrees query at f)
 
   -- the same over all exchanges
   all_versions : (answer : M → Q → A) (xs : List (Exchange M C R H K Q A)) → AreResponses answer xs → flat_map versions_in (responses_of xs) ≡ flat_map versions_of (turns_of xs)
@@ -125,9 +141,20 @@ module _ {M C R H K Q A : Type 0} (step : M → C → (M × (R × K)) ⊎ R) (op
       same_exchange (λ (x : Exchange M C R H K Q A). IsTrueOf step opening least answer number seen x.request x.response) q (Query query) (Answered query v) r (Answer v.version (answer (arc_value v.state) query)) h.0 h.1
       (query, arc_value v.state, refl, t.0, t.1, t.2, refl)
   true_of q (Unanswered query (BehindView a)) r h t =
-      same_exchange (λ (x : Exchange M C R H K Q A). IsTrueOf step opening least answer number seen x.request x.response) q (Query query) (Unanswered query (BehindView a)) r (Ahead a) h.0 h.1 (query, refl, t.0, t.1, t.2)
+      same_exchange (λ (x : Exchange M C R H K Q A). IsTrueOf step opening least answer number seen x.request x.response) q (Query query) (Unanswered query (BehindView a)) r (Ahead a) h.0 h.1 (query, inl refl, t.0, t.1, t.2)
   true_of q (Unanswered query (NotTaught d)) r h t = subst (λ (z : Response R A). IsTrueOf step opening least answer number seen q z) (sym h.1) tt
   true_of q (Unanswered query NoView) r h t = subst (λ (z : Response R A). IsTrueOf step opening least answer number seen q z) (sym h.1) tt
+  true_of q (Recalled query at v w) r h t =
+      same_exchange (λ (x : Exchange M C R H K Q A). IsTrueOf step opening least answer number seen x.request x.response) q (Past at query) (Recalled query at v w) r (PastAnswer (max v.version at) (answer (arc_value w.state) query)) h.0 h.1
+      (at, query, arc_value w.state, refl, omega (arith, t.0), omega arith, omega (arith, t.1, t.3), t.4, refl)
+  true_of q (Unread query at (BehindView a)) r h t =
+      same_exchange (λ (x : Exchange M C R H K Q A). IsTrueOf step opening least answer number seen x.request x.response) q (Past at query) (Unread query at (BehindView a)) r (Ahead a) h.0 h.1 (query, inr (at, refl), t.0, t.1, t.2)
+  true_of q (Unread query at (NotTaught d)) r h t = subst (λ (z : Response R A). IsTrueOf step opening least answer number seen q z) (sym h.1) tt
+  true_of q (Unread query at NoView) r h t = subst (λ (z : Response R A). IsTrueOf step opening least answer number seen q z) (sym h.1) tt
+  true_of q (Unrecalled query at (PastAhead a)) r h t =
+      same_exchange (λ (x : Exchange M C R H K Q A). IsTrueOf step opening least answer number seen x.request x.response) q (Past at query) (Unrecalled query at (PastAhead a)) r (NotYet a) h.0 h.1 (at, query, refl, t.0, t.1, t.2)
+  true_of q (Unrecalled query at (PastDenied d)) r h t = subst (λ (z : Response R A). IsTrueOf step opening least answer number seen q z) (sym h.1) tt
+  true_of q (Unrecalled query at PastMemory) r h t = subst (λ (z : Response R A). IsTrueOf step opening least answer number seen q z) (sym h.1) tt
 
   true_all : (xs : List (Exchange M C R H K Q A)) → AreResponses answer xs → AreTrueTurns step opening least number seen (turns_of xs) → AreTrueOf step opening least answer number seen (requests_of xs) (responses_of xs)
   true_all [] h t = tt
@@ -157,7 +184,25 @@ module _ {M C R H K Q A : Type 0} (step : M → C → (M × (R × K)) ⊎ R) (op
   unanswered_at s t query NoView h = tt
   unanswered_at s t query (BehindView a) (inl (Refusing d, e, r, p)) = absurd (cc e)
   unanswered_at s t query (BehindView a) (inl (NoMemory, e, r, p)) = absurd (cc e)
-  unanswered_at s t query (BehindView a) (inr (m, o, v, p)) = (query, refl, v.0.0, v.0.1, v.0.2)
+  unanswered_at s t query (BehindView a) (inr (m, o, v, p)) = (query, inl refl, v.0.0, v.0.1, v.0.2)
+
+  unread_at : (s t : SessionModel M C R H K) (query : Q) (at : ℕ) (f : ViewFault) → IsUnanswered step opening s t (least query) f → IsTrueAt step opening least answer s.number t.seen (Past at query) (view_response f)
+  unread_at s t query at (NotTaught d) h = tt
+  unread_at s t query at NoView h = tt
+  unread_at s t query at (BehindView a) (inl (Refusing d, e, r, p)) = absurd (cc e)
+  unread_at s t query at (BehindView a) (inl (NoMemory, e, r, p)) = absurd (cc e)
+  unread_at s t query at (BehindView a) (inr (m, o, v, p)) = (query, inr (at, refl), v.0.0, v.0.1, v.0.2)
+
+  recalled_at : (s t : SessionModel M C R H K) (query : Q) (at : ℕ) (v w : View M) → IsRecalled step opening s t (least query) at v w
+      → IsTrueAt step opening least answer s.number t.seen (Past at query) (PastAnswer (max v.version at) (answer (arc_value w.state) query))
+  recalled_at s t query at v w h =
+      let r = recalled_seen step opening s t (least query) at v w h in
+      (at, query, arc_value w.state, refl, omega (arith, h.first.0), omega arith, omega (arith, r.1, r.2), h.past.after.1, refl)
+
+  unrecalled_at : (s t : SessionModel M C R H K) (query : Q) (at : ℕ) (f : PastFault) → IsUnrecalled step opening s t (least query) at f → IsTrueAt step opening least answer s.number t.seen (Past at query) (past_response f)
+  unrecalled_at s t query at (PastAhead a) h = let v = h.fault in (at, query, refl, v.0.0, v.0.1, v.0.2)
+  unrecalled_at s t query at (PastDenied d) h = tt
+  unrecalled_at s t query at PastMemory h = tt
 
   true_at : (s t : SessionModel M C R H K) (q : Request C Q) (u : Turn M C R H K Q) (r : Response R A) → IsResponseOf answer q u r → IsTurn step opening least s u t → IsTrueAt step opening least answer s.number t.seen q r
   true_at s t q Passed r (inl h) i = subst (λ (z : Response R A). IsTrueAt step opening least answer s.number t.seen q z) (sym h.1) h.0
@@ -172,6 +217,12 @@ module _ {M C R H K Q A : Type 0} (step : M → C → (M × (R × K)) ⊎ R) (op
       same_exchange (λ (x : Exchange M C R H K Q A). IsTrueAt step opening least answer s.number t.seen x.request x.response) q (Query query) (Answered query v) r (Answer v.version (answer (arc_value v.state) query)) h.0 h.1 (answered_at s t query v i)
   true_at s t q (Unanswered query f) r h i =
       same_exchange (λ (x : Exchange M C R H K Q A). IsTrueAt step opening least answer s.number t.seen x.request x.response) q (Query query) (Unanswered query f) r (view_response f) h.0 h.1 (unanswered_at s t query f i)
+  true_at s t q (Recalled query at v w) r h i =
+      same_exchange (λ (x : Exchange M C R H K Q A). IsTrueAt step opening least answer s.number t.seen x.request x.response) q (Past at query) (Recalled query at v w) r (PastAnswer (max v.version at) (answer (arc_value w.state) query)) h.0 h.1 (recalled_at s t query at v w i)
+  true_at s t q (Unread query at f) r h i =
+      same_exchange (λ (x : Exchange M C R H K Q A). IsTrueAt step opening least answer s.number t.seen x.request x.response) q (Past at query) (Unread query at f) r (view_response f) h.0 h.1 (unread_at s t query at f i)
+  true_at s t q (Unrecalled query at f) r h i =
+      same_exchange (λ (x : Exchange M C R H K Q A). IsTrueAt step opening least answer s.number t.seen x.request x.response) q (Past at query) (Unrecalled query at f) r (past_response f) h.0 h.1 (unrecalled_at s t query at f i)
 
   true_from : (number : ℕ) (s t : SessionModel M C R H K) (xs : List (Exchange M C R H K Q A)) → s.number ≡ number → AreResponses answer xs → Conversed step opening least s (turns_of xs) t
       → AreTrueFrom step opening least answer number s.seen (requests_of xs) (responses_of xs) t.seen

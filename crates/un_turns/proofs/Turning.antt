@@ -17,7 +17,10 @@ use Rattle.un_desk.specs.Desks.{IsSubmitted, IsDeskFault, IsNotTaught, counted}
 use Rattle.un_desk.specs.Views.{IsViewFault}
 use Rattle.un_desk.specs.declared.desk.ViewFault.{ViewFault}
 use Rattle.un_desk.specs.declared.desk.ViewFault.TheVariants.{Ahead, Denied as NotTaught, Memory as NoMemory}
-use Rattle.un_turns.specs.Turns.{Turn, Passed, Decided, Undecided, Unprepared, Answered, Unanswered, IsTurn, IsRead, IsOlder, IsAnswered, IsUnanswered}
+use Rattle.un_desk.specs.declared.past.PastFault.{PastFault}
+use Rattle.un_desk.specs.declared.past.PastFault.TheVariants.{Ahead as PastAhead, Denied as PastDenied, Memory as PastMemory}
+use Rattle.un_desk.specs.Pasts.{IsPastFault}
+use Rattle.un_turns.specs.Turns.{Turn, Passed, Decided, Undecided, Unprepared, Answered, Unanswered, Recalled, Unread, Unrecalled, IsTurn, IsRead, IsOlder, IsAnswered, IsUnanswered, IsRecalled, IsUnrecalled}
 use Rattle.un_turns.specs.Conversations.{Conversed, accepted_by, accepted_of, waits_of, wait_if_later, known_after, versions_of, Rises, SnocLaw, VersionLaw}
 
 risen_le : (n : ℕ) → risen n ≤ n + 1
@@ -74,6 +77,13 @@ module _ {M C R H K : Type 0} where
   view_fault_moves s t n (NotTaught d) h p = not_taught_moves s t d h p
   view_fault_moves s t n NoMemory h p = move s t t.seen s.own s.denied (risen s.waits) 0 1 h p (omega arith) (risen_le s.waits)
 
+  pub past_fault_moves : (s t : SessionModel M C R H K) (at : ℕ) (f : PastFault) → IsPastFault (counted s) t at f → IsPrefix s.seen t.seen → IsMove s t 0 1
+  past_fault_moves s t at (PastAhead a) h p = move s t t.seen s.own s.denied (risen s.waits) 0 1 h.1 p (omega arith) (risen_le s.waits)
+  past_fault_moves s t at (PastDenied NoCopy) h p = move s t t.seen s.own (risen s.denied) (risen s.waits) 0 1 h p (omega arith) (risen_le s.waits)
+  past_fault_moves s t at (PastDenied (Long a b)) h p = move s t t.seen s.own (risen s.denied) (risen s.waits) 0 1 h.0 p (omega arith) (risen_le s.waits)
+  past_fault_moves s t at (PastDenied (Book a b)) h p = absurd h
+  past_fault_moves s t at PastMemory h p = move s t t.seen s.own s.denied (risen s.waits) 0 1 h p (omega arith) (risen_le s.waits)
+
   pub wider : (s t : SessionModel M C R H K) (a b c : ℕ) → IsMove s t a b → b ≤ c → IsMove s t a c
   wider s t a b c m le = record { number = m.number; seen = m.seen; own = m.own; waits = omega (arith, m.waits, le) }
 
@@ -91,7 +101,7 @@ module _ {M C R H K : Type 0} (step : M → C → (M × (R × K)) ⊎ R) (openin
       let lt : known < n = omega (arith, o.read.version, o.older, grown, k) in
       later_one known n lt
 
-  answered_moves : (s t : SessionModel M C R H K) (known n : ℕ) (v : View M) → known ≤ length s.seen → IsAnswered step opening s t n v → IsMove s t 0 (wait_if_later known n)
+  pub answered_moves : (s t : SessionModel M C R H K) (known n : ℕ) (v : View M) → known ≤ length s.seen → IsAnswered step opening s t n v → IsMove s t 0 (wait_if_later known n)
   answered_moves s t known n v k h =
       elim h.1 as (λ _. IsMove s t 0 (wait_if_later known n)) [
         | inl r ↦ wider s t 0 0 (wait_if_later known n) (read_moves s t v r) (omega arith)
@@ -100,7 +110,7 @@ module _ {M C R H K : Type 0} (step : M → C → (M × (R × K)) ⊎ R) (openin
             wider s t 0 1 (wait_if_later known n) (move_trans s w.0 t 0 0 0 1 (read_moves s w.0 w.1.view w.1.read) (waited_moves w.0 t v w.2)) (omega (arith, one))
       ]
 
-  unanswered_moves : (s t : SessionModel M C R H K) (known n : ℕ) (f : ViewFault) → known ≤ length s.seen → IsUnanswered step opening s t n f → IsMove s t 0 (wait_if_later known n)
+  pub unanswered_moves : (s t : SessionModel M C R H K) (known n : ℕ) (f : ViewFault) → known ≤ length s.seen → IsUnanswered step opening s t n f → IsMove s t 0 (wait_if_later known n)
   unanswered_moves s t known n f k h =
       elim h as (λ _. IsMove s t 0 (wait_if_later known n)) [
         | inl r ↦ wider s t 0 0 (wait_if_later known n) (read_fault_moves s t r.0 r.2 r.3) (omega arith)
@@ -108,6 +118,26 @@ module _ {M C R H K : Type 0} (step : M → C → (M × (R × K)) ⊎ R) (openin
             let one = older_later s w.0 known n k w.1 in
             wider s t 0 1 (wait_if_later known n) (move_trans s w.0 t 0 0 0 1 (read_moves s w.0 w.1.view w.1.read) (view_fault_moves w.0 t n f w.2 w.3)) (omega (arith, one))
       ]
+
+  recalled_moves : (s t : SessionModel M C R H K) (known n at : ℕ) (v w : View M) → known ≤ length s.seen → IsRecalled step opening s t n at v w → IsMove s t 0 (wait_if_later known n + 1)
+  recalled_moves s t known n at v w k h =
+      let past = move h.between t t.seen h.between.own h.between.denied (risen h.between.waits) 0 1 h.past.kept h.past.seen (omega arith) (risen_le h.between.waits) in
+      move_trans s h.between t 0 (wait_if_later known n) 0 1 (answered_moves s h.between known n v k h.first) past
+
+  unrecalled_moves : (s t : SessionModel M C R H K) (known n at : ℕ) (f : PastFault) → known ≤ length s.seen → IsUnrecalled step opening s t n at f → IsMove s t 0 (wait_if_later known n + 1)
+  unrecalled_moves s t known n at f k h =
+      move_trans s h.between t 0 (wait_if_later known n) 0 1 (answered_moves s h.between known n h.view k h.first) (past_fault_moves h.between t at f h.fault h.seen)
+
+  answered_version : (s t : SessionModel M C R H K) (n : ℕ) (v : View M) → IsAnswered step opening s t n v → v.version ≡ length t.seen
+  answered_version s t n v h = ⊎_elim (λ (r : IsRead step opening s t v). r.version) (λ (w : (m : SessionModel M C R H K) × IsOlder step opening s m n × IsRead step opening (counted m) t v). w.2.version) h.1
+
+  -- the versions of a query at a past version have been seen, and the first view is not below what had been seen
+  pub recalled_seen : (s t : SessionModel M C R H K) (n at : ℕ) (v w : View M) → IsRecalled step opening s t n at v w → (length s.seen ≤ v.version) × (v.version ≤ length t.seen) × (at ≤ length t.seen)
+  recalled_seen s t n at v w h =
+      let first = prefix_length s.seen h.between.seen (answered_moves s h.between 0 n v (omega arith) h.first).seen in
+      let more = prefix_length h.between.seen t.seen h.past.seen in
+      let e = answered_version s h.between n v h.first in
+      (omega (arith, first, e), omega (arith, more, e), h.past.after.0)
 
   pub decided_moves : (s t : SessionModel M C R H K) (cmd : C) (r : Receipt M C R H K) → IsSubmitted step opening s t cmd r
       → IsMove s t (length (accepted_by cmd r)) 1
@@ -126,6 +156,9 @@ module _ {M C R H K Q : Type 0} (step : M → C → (M × (R × K)) ⊎ R) (open
   turn_moves known s t (Unprepared cmd f) k h = read_fault_moves s t f h.0 h.1
   turn_moves known s t (Answered query v) k h = answered_moves step opening s t known (least query) v k h
   turn_moves known s t (Unanswered query f) k h = unanswered_moves step opening s t known (least query) f k h
+  turn_moves known s t (Recalled query at v w) k h = recalled_moves step opening s t known (least query) at v w k h
+  turn_moves known s t (Unread query at f) k h = unanswered_moves step opening s t known (least query) f k h
+  turn_moves known s t (Unrecalled query at f) k h = unrecalled_moves step opening s t known (least query) at f k h
 
   -- every turn keeps the session's number, and the session sees no less
   pub turn_number : (s t : SessionModel M C R H K) (u : Turn M C R H K Q) → IsTurn step opening least s u t → t.number ≡ s.number
@@ -145,9 +178,6 @@ module _ {M C R H K Q : Type 0} (step : M → C → (M × (R × K)) ⊎ R) (open
   known_le : (n k : ℕ) (xs ys : List (Entry M C R H K)) → k ≤ length xs → n ≡ length ys → IsPrefix xs ys → max k n ≤ length ys
   known_le n k xs ys le e p = let g = prefix_length xs ys p in omega (arith, g, e, le)
 
-  answered_version : (s t : SessionModel M C R H K) (n : ℕ) (v : View M) → IsAnswered step opening s t n v → v.version ≡ length t.seen
-  answered_version s t n v h = ⊎_elim (λ (r : IsRead step opening s t v). r.version) (λ (w : (m : SessionModel M C R H K) × IsOlder step opening s m n × IsRead step opening (counted m) t v). w.2.version) h.1
-
   decided_version : (s t : SessionModel M C R H K) (cmd : C) (r : Receipt M C R H K) → IsSubmitted step opening s t cmd r → r.version ≡ length t.seen
   decided_version s t cmd r h = h.receipt.version ∙ ap length (sym h.receipt.seen)
 
@@ -157,8 +187,14 @@ module _ {M C R H K Q : Type 0} (step : M → C → (M × (R × K)) ⊎ R) (open
   known_seen known s t (Decided cmd r) k h = known_le r.version known s.seen t.seen k (decided_version s t cmd r h) h.seen
   known_seen known s t (Undecided cmd f) k h = let g = prefix_length s.seen t.seen h.1 in omega (arith, g, k)
   known_seen known s t (Unprepared cmd f) k h = let g = prefix_length s.seen t.seen h.1 in omega (arith, g, k)
-  known_seen known s t (Answered query v) k h = known_le v.version known s.seen t.seen k (answered_version s t (least query) v h) (turn_seen s t (Answered query v) h)
+  known_seen known s t (Answered query v) k h = known_le v.version known s.seen t.seen k (answered_version step opening s t (least query) v h) (turn_seen s t (Answered query v) h)
   known_seen known s t (Unanswered query f) k h = let g = prefix_length s.seen t.seen (turn_seen s t (Unanswered query f) h) in omega (arith, g, k)
+  known_seen known s t (Recalled query at v w) k h =
+      let g = prefix_length s.seen t.seen (turn_seen s t (Recalled query at v w) h) in
+      let r = recalled_seen step opening s t (least query) at v w h in
+      omega (arith, g, k, r.1, r.2)
+  known_seen known s t (Unread query at f) k h = let g = prefix_length s.seen t.seen (turn_seen s t (Unread query at f) h) in omega (arith, g, k)
+  known_seen known s t (Unrecalled query at f) k h = let g = prefix_length s.seen t.seen (turn_seen s t (Unrecalled query at f) h) in omega (arith, g, k)
 
   -- the versions rise from what the session had seen
   rise_from : (from : ℕ) (s t : SessionModel M C R H K) (us : List (Turn M C R H K Q)) → from ≤ length s.seen → Conversed step opening least s us t → Rises from (flat_map versions_of us)
@@ -172,9 +208,14 @@ module _ {M C R H K Q : Type 0} (step : M → C → (M × (R × K)) ⊎ R) (open
   rise_from from s t (Unprepared cmd f ∷ us) k h = rise_from from h.0 t us (known_seen from s h.0 (Unprepared cmd f) k h.1) h.2
   rise_from from s t (Answered query v ∷ us) k h =
       let seen = known_seen from s h.0 (Answered query v) k h.1 in
-      let e = answered_version s h.0 (least query) v h.1 in
+      let e = answered_version step opening s h.0 (least query) v h.1 in
       (omega (arith, seen, e), rise_from v.version h.0 t us (omega (arith, e)) h.2)
   rise_from from s t (Unanswered query f ∷ us) k h = rise_from from h.0 t us (known_seen from s h.0 (Unanswered query f) k h.1) h.2
+  rise_from from s t (Recalled query at v w ∷ us) k h =
+      let r = recalled_seen step opening s h.0 (least query) at v w h.1 in
+      (omega (arith, k, r.0), rise_from (max v.version at) h.0 t us (omega (arith, r.1, r.2)) h.2)
+  rise_from from s t (Unread query at f ∷ us) k h = rise_from from h.0 t us (known_seen from s h.0 (Unread query at f) k h.1) h.2
+  rise_from from s t (Unrecalled query at f ∷ us) k h = rise_from from h.0 t us (known_seen from s h.0 (Unrecalled query at f) k h.1) h.2
 
   pub versions_rise : VersionLaw H step opening least
   versions_rise s t us h = rise_from (length s.seen) s t us (omega arith) h

@@ -10,7 +10,9 @@ use Rattle.un_publish.specs.declared.session.SessionFault.TheVariants.{Denied as
 use Rattle.un_desk.specs.declared.desk.ViewFault.{ViewFault}
 use Rattle.un_desk.specs.declared.desk.ViewFault.TheVariants.{Ahead, Denied, Memory}
 use Rattle.un_turns.specs.Own.{own_entries, IsWithin}
-use Rattle.un_turns.specs.Turns.{Turn, IsTurn, Passed, Decided, Undecided, Unprepared, Answered, Unanswered}
+use Rattle.un_desk.specs.declared.past.PastFault.{PastFault}
+use Rattle.un_desk.specs.declared.past.PastFault.TheVariants.{Ahead as PastAhead, Denied as PastDenied, Memory as PastMemory}
+use Rattle.un_turns.specs.Turns.{Turn, IsTurn, Passed, Decided, Undecided, Unprepared, Answered, Unanswered, Recalled, Unread, Unrecalled}
 
 -- 1 if more entries are asked for than are known, and otherwise 0
 abbrev pub wait_if_later : ℕ → ℕ → ℕ
@@ -21,6 +23,12 @@ abbrev pub IsAheadOf : ℕ → ℕ → ViewFault → Type 0
 IsAheadOf least seen (Ahead a) = (a.seen ≡ least) × (a.latest ≤ seen) × (a.latest < least)
 IsAheadOf least seen (Denied d) = Unit {0}
 IsAheadOf least seen Memory = Unit {0}
+
+-- a query at a past version that is refused because the version is over what the session has then seen
+abbrev pub IsNotYet : ℕ → ℕ → PastFault → Type 0
+IsNotYet at seen (PastAhead a) = (a.seen ≡ at) × (a.latest ≤ seen) × (a.latest < at)
+IsNotYet at seen (PastDenied d) = Unit {0}
+IsNotYet at seen PastMemory = Unit {0}
 
 module _ {M C R H K : Type 0} where
   -- the command of a receipt with its reply, if it was accepted
@@ -41,6 +49,9 @@ module _ {M C R H K Q : Type 0} where
   versions_of (Unprepared cmd f) = []
   versions_of (Answered query v) = v.version ∷ []
   versions_of (Unanswered query f) = []
+  versions_of (Recalled query at v w) = max v.version at ∷ []
+  versions_of (Unread query at f) = []
+  versions_of (Unrecalled query at f) = []
 
   -- the command that a turn accepted, with its reply
   abbrev pub accepted_of : Turn M C R H K Q → List (C × R)
@@ -50,8 +61,12 @@ module _ {M C R H K Q : Type 0} where
   accepted_of (Unprepared cmd f) = []
   accepted_of (Answered query v) = []
   accepted_of (Unanswered query f) = []
+  accepted_of (Recalled query at v w) = []
+  accepted_of (Unread query at f) = []
+  accepted_of (Unrecalled query at f) = []
 
-  -- how many times a turn may wait: once for a command that comes to the desk, and once for a query that asks for more entries than are known
+  -- how many times a turn may wait: once for a command that comes to the desk, once for a query that asks for more entries than are known, and
+  -- once for a past version that is asked of the desk
   abbrev pub waits_of : (Q → ℕ) → ℕ → Turn M C R H K Q → ℕ
   waits_of least known Passed = 0
   waits_of least known (Decided cmd r) = 1
@@ -59,6 +74,9 @@ module _ {M C R H K Q : Type 0} where
   waits_of least known (Unprepared cmd f) = 0
   waits_of least known (Answered query v) = wait_if_later known (least query)
   waits_of least known (Unanswered query f) = wait_if_later known (least query)
+  waits_of least known (Recalled query at v w) = wait_if_later known (least query) + 1
+  waits_of least known (Unread query at f) = wait_if_later known (least query)
+  waits_of least known (Unrecalled query at f) = wait_if_later known (least query) + 1
 
   -- how many entries are known after a turn: those known before it, or the version that it reports
   abbrev pub known_after : ℕ → Turn M C R H K Q → ℕ
@@ -68,11 +86,26 @@ module _ {M C R H K Q : Type 0} where
   known_after known (Unprepared cmd f) = known
   known_after known (Answered query v) = max known v.version
   known_after known (Unanswered query f) = known
+  known_after known (Recalled query at v w) = max known (max v.version at)
+  known_after known (Unread query at f) = known
+  known_after known (Unrecalled query at f) = known
 
   -- how many times the turns may wait, if this many entries are known before them
   abbrev pub waits_due : (Q → ℕ) → ℕ → List (Turn M C R H K Q) → ℕ
   waits_due least known [] = 0
   waits_due least known (u ∷ us) = waits_of least known u + waits_due least (known_after known u) us
+
+-- how many times a query was denied, by its fault
+abbrev pub view_denials : ViewFault → ℕ
+view_denials (Ahead a) = 0
+view_denials (Denied d) = 1
+view_denials Memory = 0
+
+-- and at a past version
+abbrev pub past_denials : PastFault → ℕ
+past_denials (PastAhead a) = 0
+past_denials (PastDenied d) = 1
+past_denials PastMemory = 0
 
 module _ {M C R H K Q : Type 0} where
   -- how many times a turn was denied
@@ -84,9 +117,10 @@ module _ {M C R H K Q : Type 0} where
   denials_of (Unprepared cmd (Refused d)) = 1
   denials_of (Unprepared cmd NoMemory) = 0
   denials_of (Answered query v) = 0
-  denials_of (Unanswered query (Ahead a)) = 0
-  denials_of (Unanswered query (Denied d)) = 1
-  denials_of (Unanswered query Memory) = 0
+  denials_of (Unanswered query f) = view_denials f
+  denials_of (Recalled query at v w) = 0
+  denials_of (Unread query at f) = view_denials f
+  denials_of (Unrecalled query at f) = past_denials f
 
   abbrev pub denials : List (Turn M C R H K Q) → ℕ
   denials [] = 0
@@ -120,7 +154,7 @@ module _ {M C R H K : Type 0} where
 
 module _ {M C R H K Q : Type 0} where
   -- What a turn reports is true of the entries that the session has seen in the end: its version is a number of these entries, and what it
-  -- reports is so after the first `version` of them.
+  -- reports is so after the first `version` of them; at a past version it is so after that many of them.
   abbrev pub IsTrueTurn : (M → C → (M × (R × K)) ⊎ R) → List M → (Q → ℕ) → ℕ → List (Entry M C R H K) → Turn M C R H K Q → Type 0
   IsTrueTurn step opening least number seen Passed = Unit {0}
   IsTrueTurn step opening least number seen (Decided cmd r) = IsDecidedAt step opening number (take r.version seen) cmd r
@@ -128,6 +162,10 @@ module _ {M C R H K Q : Type 0} where
   IsTrueTurn step opening least number seen (Unprepared cmd f) = Unit {0}
   IsTrueTurn step opening least number seen (Answered query v) = (least query ≤ v.version) × (v.version ≤ length seen) × Reaches step opening (take v.version seen) (arc_value v.state)
   IsTrueTurn step opening least number seen (Unanswered query f) = IsAheadOf (least query) (length seen) f
+  IsTrueTurn step opening least number seen (Recalled query at v w) =
+      (least query ≤ v.version) × (v.version ≤ length seen) × (w.version ≡ at) × (at ≤ length seen) × Reaches step opening (take at seen) (arc_value w.state)
+  IsTrueTurn step opening least number seen (Unread query at f) = IsAheadOf (least query) (length seen) f
+  IsTrueTurn step opening least number seen (Unrecalled query at f) = IsNotYet at (length seen) f
 
   abbrev pub AreTrueTurns : (M → C → (M × (R × K)) ⊎ R) → List M → (Q → ℕ) → ℕ → List (Entry M C R H K) → List (Turn M C R H K Q) → Type 0
   AreTrueTurns step opening least number seen [] = Unit {0}
@@ -153,7 +191,7 @@ module _ {M C R K Q : Type 0} where
       → IsWithin s → Conversed step opening least s us t
       → IsWithin t × ((es : List (Entry M C R H K)) × (own_entries t ≡ own_entries s ++ es) × (map decision es ≡ flat_map accepted_of us))
 
-  -- the count of waits rises by at most one for each command, and one for each query that asks for more entries than are known
+  -- the count of waits rises by at most one for each command, one for each query that asks for more entries than are known, and one for each past version
   abbrev pub WaitLaw : (H : Type 0) → (M → C → (M × (R × K)) ⊎ R) → List M → (Q → ℕ) → Type 0
   WaitLaw H step opening least =
       (s t : SessionModel M C R H K) (us : List (Turn M C R H K Q))

@@ -4,3 +4,4 @@ pub mod Conversations
 pub mod Served
 pub mod Truths
 pub mod Prepared
+pub mod Pasts

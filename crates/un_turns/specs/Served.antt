@@ -1,5 +1,5 @@
 -- The response to a request, by what the request did to the session.
-use Rattle.std.specs.Prelude.{◌≡◌, ◌⊎◌, ℕ, if◌then◌else◌, List, [], ◌∷◌, map}
+use Rattle.std.specs.Prelude.{◌≡◌, ◌⊎◌, ℕ, max, if◌then◌else◌, List, [], ◌∷◌, map}
 use Rattle.std.proofs.Common.{inl, inr}
 use Rattle.std.specs.Arc.{arc_value}
 use Rattle.un_publish.specs.Models.{SessionModel}
@@ -9,10 +9,12 @@ use Rattle.un_journal.specs.declared.receipt.Receipt.{Receipt}
 use Rattle.un_desk.specs.declared.desk.ViewFault.{ViewFault}
 use Rattle.un_desk.specs.declared.desk.ViewFault.TheVariants.{Ahead as BehindView, Denied as NotTaught, Memory as NoView}
 use Rattle.un_turns.specs.declared.request.Request.{Request}
-use Rattle.un_turns.specs.declared.request.Request.TheVariants.{Other, Command, Query}
+use Rattle.un_desk.specs.declared.past.PastFault.{PastFault}
+use Rattle.un_desk.specs.declared.past.PastFault.TheVariants.{Ahead as BehindPast, Denied as PastNotTaught, Memory as NoPast}
+use Rattle.un_turns.specs.declared.request.Request.TheVariants.{Other, Command, Query, Past}
 use Rattle.un_turns.specs.declared.request.Response.{Response}
-use Rattle.un_turns.specs.declared.request.Response.TheVariants.{Nothing, Accepted, Refused, Answer, Ahead, Denied, Memory}
-use Rattle.un_turns.specs.Turns.{Turn, IsTurn, Passed, Decided, Undecided, Unprepared, Answered, Unanswered}
+use Rattle.un_turns.specs.declared.request.Response.TheVariants.{Nothing, Accepted, Refused, Answer, PastAnswer, Ahead, NotYet, Denied, Memory}
+use Rattle.un_turns.specs.Turns.{Turn, IsTurn, Passed, Decided, Undecided, Unprepared, Answered, Unanswered, Recalled, Unread, Unrecalled}
 use Rattle.un_turns.specs.Conversations.{Conversed}
 
 module _ {R A : Type 0} where
@@ -25,12 +27,18 @@ module _ {R A : Type 0} where
   view_response (NotTaught d) = Denied d
   view_response NoView = Memory
 
+  abbrev pub past_response : PastFault → Response R A
+  past_response (BehindPast a) = NotYet a
+  past_response (PastNotTaught d) = Denied d
+  past_response NoPast = Memory
+
 module _ {M C R H K A : Type 0} where
   abbrev pub receipt_response : Receipt M C R H K → Response R A
   receipt_response r = if r.accepted then Accepted r.version r.reply else Refused r.version r.reply
 
 module _ {M C R H K Q A : Type 0} where
-  -- The response to a turn: a command that is decided gets its reply, and a query that is answered the answer at the view's state.
+  -- The response to a turn: a command that is decided gets its reply, and a query that is answered the answer at the view's state. At a past
+  -- version that is the past view's state, and the version is the greater of the first view's and the past one.
   -- A request that did nothing asked for nothing, or memory ran out before it could.
   abbrev pub IsResponseOf : (M → Q → A) → Request C Q → Turn M C R H K Q → Response R A → Type 0
   IsResponseOf answer request Passed response = ((request ≡ Other) × (response ≡ Nothing)) ⊎ (response ≡ Memory)
@@ -39,6 +47,9 @@ module _ {M C R H K Q A : Type 0} where
   IsResponseOf answer request (Unprepared cmd f) response = (request ≡ Command cmd) × (response ≡ fault_response f)
   IsResponseOf answer request (Answered query v) response = (request ≡ Query query) × (response ≡ Answer v.version (answer (arc_value v.state) query))
   IsResponseOf answer request (Unanswered query f) response = (request ≡ Query query) × (response ≡ view_response f)
+  IsResponseOf answer request (Recalled query at v w) response = (request ≡ Past at query) × (response ≡ PastAnswer (max v.version at) (answer (arc_value w.state) query))
+  IsResponseOf answer request (Unread query at f) response = (request ≡ Past at query) × (response ≡ view_response f)
+  IsResponseOf answer request (Unrecalled query at f) response = (request ≡ Past at query) × (response ≡ past_response f)
 
   -- a request was handled: some turn took the session from s to t, and this is its response
   pub record IsServed (step : M → C → (M × (R × K)) ⊎ R) (opening : List M) (least : Q → ℕ) (answer : M → Q → A) (s : SessionModel M C R H K) (request : Request C Q) (response : Response R A) (t : SessionModel M C R H K) : Type 0 where
@@ -53,7 +64,9 @@ module _ {M C R K Q A : Type 0} where
   IsReplyOf step request (Refused v reply) = (cmd : C) × (s : M) × (request ≡ Command cmd) × (step s cmd ≡ inr reply)
   IsReplyOf step request Nothing = request ≡ Other
   IsReplyOf step request (Answer v text) = Unit {0}
+  IsReplyOf step request (PastAnswer v text) = Unit {0}
   IsReplyOf step request (Ahead a) = Unit {0}
+  IsReplyOf step request (NotYet a) = Unit {0}
   IsReplyOf step request (Denied d) = Unit {0}
   IsReplyOf step request Memory = Unit {0}
 

@@ -6,9 +6,9 @@ use Rattle.un_machine.specs.declared.Entry.{Entry}
 use Rattle.un_machine.specs.Logs.{Reaches}
 use Rattle.un_publish.specs.Models.{SessionModel}
 use Rattle.un_turns.specs.declared.request.Request.{Request}
-use Rattle.un_turns.specs.declared.request.Request.TheVariants.{Other, Command, Query}
+use Rattle.un_turns.specs.declared.request.Request.TheVariants.{Other, Command, Query, Past}
 use Rattle.un_turns.specs.declared.request.Response.{Response}
-use Rattle.un_turns.specs.declared.request.Response.TheVariants.{Nothing, Accepted, Refused, Answer, Ahead, Denied, Memory}
+use Rattle.un_turns.specs.declared.request.Response.TheVariants.{Nothing, Accepted, Refused, Answer, PastAnswer, Ahead, NotYet, Denied, Memory}
 use Rattle.un_turns.specs.Own.{own_entries, IsWithin}
 use Rattle.un_turns.specs.Conversations.{Rises, IsLastEntry, wait_if_later, decision}
 use Rattle.un_turns.specs.Served.{IsServed, IsReplyOf, AreServed}
@@ -20,7 +20,9 @@ module _ {R A : Type 0} where
   versions_in (Accepted v reply) = v ∷ []
   versions_in (Refused v reply) = v ∷ []
   versions_in (Answer v answer) = v ∷ []
+  versions_in (PastAnswer v answer) = v ∷ []
   versions_in (Ahead a) = []
+  versions_in (NotYet a) = []
   versions_in (Denied d) = []
   versions_in Memory = []
 
@@ -29,7 +31,9 @@ module _ {R A : Type 0} where
   denials_in (Accepted v reply) = 0
   denials_in (Refused v reply) = 0
   denials_in (Answer v answer) = 0
+  denials_in (PastAnswer v answer) = 0
   denials_in (Ahead a) = 0
+  denials_in (NotYet a) = 0
   denials_in (Denied d) = 1
   denials_in Memory = 0
 
@@ -43,27 +47,37 @@ module _ {R A : Type 0} where
   known_in known (Accepted v reply) = max known v
   known_in known (Refused v reply) = max known v
   known_in known (Answer v answer) = max known v
+  known_in known (PastAnswer v answer) = max known v
   known_in known (Ahead a) = known
+  known_in known (NotYet a) = known
   known_in known (Denied d) = known
   known_in known Memory = known
 
 module _ {C Q : Type 0} where
+  -- the request is this query, at the last state or at a past version
+  abbrev pub IsQuery : Request C Q → Q → Type 0
+  IsQuery request query = (request ≡ Query query) ⊎ ((at : ℕ) × (request ≡ Past at query))
+
   -- how many times a request may wait
   abbrev pub waits_in : (Q → ℕ) → ℕ → Request C Q → ℕ
   waits_in least known Other = 0
   waits_in least known (Command cmd) = 1
   waits_in least known (Query query) = wait_if_later known (least query)
+  waits_in least known (Past at query) = wait_if_later known (least query) + 1
 
 module _ {C R Q A : Type 0} where
   -- the command of a request with its reply, if it was accepted
   abbrev pub accepted_in : Request C Q → Response R A → List (C × R)
   accepted_in Other response = []
   accepted_in (Query query) response = []
+  accepted_in (Past at query) response = []
   accepted_in (Command cmd) Nothing = []
   accepted_in (Command cmd) (Accepted v reply) = (cmd, reply) ∷ []
   accepted_in (Command cmd) (Refused v reply) = []
   accepted_in (Command cmd) (Answer v answer) = []
+  accepted_in (Command cmd) (PastAnswer v answer) = []
   accepted_in (Command cmd) (Ahead a) = []
+  accepted_in (Command cmd) (NotYet a) = []
   accepted_in (Command cmd) (Denied d) = []
   accepted_in (Command cmd) Memory = []
 
@@ -79,8 +93,9 @@ module _ {C R Q A : Type 0} where
 
 module _ {M C R H K Q A : Type 0} where
   -- A response is true of the entries that the session has seen in the end: an accepted command is entry v, with this reply; a refused one was
-  -- refused at the state after v entries; a query is answered at the state after v entries, and v is no less than it asked for; and a query that
-  -- asked for more entries than there were is told so.
+  -- refused at the state after v entries; a query is answered at the state after v entries, and v is no less than it asked for; at a past version it
+  -- is answered at the state after that many entries, and v is no less than that either; and a query that asked for more entries than there were,
+  -- or for a past version that was over them, is told so.
   abbrev pub IsTrueOf : (M → C → (M × (R × K)) ⊎ R) → List M → (Q → ℕ) → (M → Q → A) → ℕ → List (Entry M C R H K) → Request C Q → Response R A → Type 0
   IsTrueOf step opening least answer number seen request Nothing = request ≡ Other
   IsTrueOf step opening least answer number seen request (Accepted v reply) =
@@ -89,8 +104,12 @@ module _ {M C R H K Q A : Type 0} where
       (cmd : C) × (s : M) × (request ≡ Command cmd) × (v ≡ length (take v seen)) × Reaches step opening (take v seen) s × (step s cmd ≡ inr reply)
   IsTrueOf step opening least answer number seen request (Answer v text) =
       (query : Q) × (s : M) × (request ≡ Query query) × (least query ≤ v) × (v ≤ length seen) × Reaches step opening (take v seen) s × (text ≡ answer s query)
+  IsTrueOf step opening least answer number seen request (PastAnswer v text) =
+      (at : ℕ) × (query : Q) × (s : M) × (request ≡ Past at query) × (least query ≤ v) × (at ≤ v) × (v ≤ length seen) × Reaches step opening (take at seen) s × (text ≡ answer s query)
   IsTrueOf step opening least answer number seen request (Ahead a) =
-      (query : Q) × (request ≡ Query query) × (a.seen ≡ least query) × (a.latest ≤ length seen) × (a.latest < least query)
+      (query : Q) × IsQuery request query × (a.seen ≡ least query) × (a.latest ≤ length seen) × (a.latest < least query)
+  IsTrueOf step opening least answer number seen request (NotYet a) =
+      (at : ℕ) × (query : Q) × (request ≡ Past at query) × (a.seen ≡ at) × (a.latest ≤ length seen) × (a.latest < at)
   IsTrueOf step opening least answer number seen request (Denied d) = Unit {0}
   IsTrueOf step opening least answer number seen request Memory = Unit {0}
 
@@ -100,7 +119,7 @@ module _ {M C R H K Q A : Type 0} where
   AreTrueOf step opening least answer number seen (q ∷ qs) [] = ⊥
   AreTrueOf step opening least answer number seen (q ∷ qs) (r ∷ rs) = IsTrueOf step opening least answer number seen q r × AreTrueOf step opening least answer number seen qs rs
 
-  -- the same of the entries that the session has then seen, which are all of them
+  -- The same of the entries that the session has then seen, which are all of them. At a past version the entries that were read before it may be fewer.
   abbrev pub IsTrueAt : (M → C → (M × (R × K)) ⊎ R) → List M → (Q → ℕ) → (M → Q → A) → ℕ → List (Entry M C R H K) → Request C Q → Response R A → Type 0
   IsTrueAt step opening least answer number seen request Nothing = request ≡ Other
   IsTrueAt step opening least answer number seen request (Accepted v reply) =
@@ -109,8 +128,12 @@ module _ {M C R H K Q A : Type 0} where
       (cmd : C) × (s : M) × (request ≡ Command cmd) × (v ≡ length seen) × Reaches step opening seen s × (step s cmd ≡ inr reply)
   IsTrueAt step opening least answer number seen request (Answer v text) =
       (query : Q) × (s : M) × (request ≡ Query query) × (least query ≤ v) × (v ≡ length seen) × Reaches step opening seen s × (text ≡ answer s query)
+  IsTrueAt step opening least answer number seen request (PastAnswer v text) =
+      (at : ℕ) × (query : Q) × (s : M) × (request ≡ Past at query) × (least query ≤ v) × (at ≤ v) × (v ≤ length seen) × Reaches step opening (take at seen) s × (text ≡ answer s query)
   IsTrueAt step opening least answer number seen request (Ahead a) =
-      (query : Q) × (request ≡ Query query) × (a.seen ≡ least query) × (a.latest ≡ length seen) × (length seen < least query)
+      (query : Q) × IsQuery request query × (a.seen ≡ least query) × (a.latest ≡ length seen) × (length seen < least query)
+  IsTrueAt step opening least answer number seen request (NotYet a) =
+      (at : ℕ) × (query : Q) × (request ≡ Past at query) × (a.seen ≡ at) × (a.latest ≡ length seen) × (length seen < at)
   IsTrueAt step opening least answer number seen request (Denied d) = Unit {0}
   IsTrueAt step opening least answer number seen request Memory = Unit {0}
 
@@ -150,6 +173,12 @@ module _ {M C R K Q A : Type 0} where
       (s m t : SessionModel M C R H K) (requests : List (Request C Q)) (responses : List (Response R A)) (request : Request C Q) (response : Response R A)
       → AreServed step opening least answer s requests responses m → IsServed step opening least answer m request response t
       → AreServed step opening least answer s (requests ++ request ∷ []) (responses ++ response ∷ []) t
+
+  -- an answer at a past version may be lost before it is told: memory may have run out just as well
+  abbrev pub LostLaw : (H : Type 0) → (M → C → (M × (R × K)) ⊎ R) → List M → (Q → ℕ) → (M → Q → A) → Type 0
+  LostLaw H step opening least answer =
+      (s t : SessionModel M C R H K) (request : Request C Q) (v : ℕ) (text : A)
+      → IsServed step opening least answer s request (PastAnswer v text) t → IsServed step opening least answer s request Memory t
 
   -- all that is promised holds
   abbrev pub TruthLaw : (H : Type 0) → (M → C → (M × (R × K)) ⊎ R) → List M → (Q → ℕ) → (M → Q → A) → Type 0

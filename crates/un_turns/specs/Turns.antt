@@ -13,6 +13,9 @@ use Rattle.un_desk.specs.declared.desk.ViewFault.{ViewFault}
 use Rattle.un_desk.specs.declared.desk.ViewFault.TheVariants.{Denied as NotTaught, Memory as NoMemory}
 use Rattle.un_desk.specs.Desks.{IsSubmitted, IsDeskFault, counted}
 use Rattle.un_desk.specs.Views.{IsViewFault}
+use Rattle.un_desk.specs.declared.past.PastFault.{PastFault}
+use Rattle.un_desk.specs.Pasts.{IsPastFault}
+use Rattle.un_asof.specs.Pasts.{IsAfter}
 
 -- A request that was handled, and its outcome.
 pub data Turn (M C R H K Q : Type 0) : Type 0 where
@@ -28,6 +31,12 @@ pub data Turn (M C R H K Q : Type 0) : Type 0 where
   Answered : Q → View M → Turn M C R H K Q
   -- a query that was not answered
   Unanswered : Q → ViewFault → Turn M C R H K Q
+  -- a query that was answered at a past version: the view that was read first, and the view of that version
+  Recalled : Q → ℕ → View M → View M → Turn M C R H K Q
+  -- a query at a past version, before which nothing could be read
+  Unread : Q → ℕ → ViewFault → Turn M C R H K Q
+  -- a query at a past version that was not answered after the first view was read
+  Unrecalled : Q → ℕ → PastFault → Turn M C R H K Q
 
 -- the fault of a read, as the fault of a view
 abbrev pub view_fault : SessionFault → ViewFault
@@ -59,6 +68,28 @@ module _ {M C R H K : Type 0} where
       ((e : SessionFault) × (f ≡ view_fault e) × IsReadFault s t e × IsPrefix s.seen t.seen)
       ⊎ ((m : SessionModel M C R H K) × IsOlder step opening s m least × IsViewFault (counted m) t least f × IsPrefix m.seen t.seen)
 
+module _ {M C R H K : Type 0} where
+  -- a view of a past version, which the desk gave
+  pub record IsPastView (step : M → C → (M × (R × K)) ⊎ R) (opening : List M) (s t : SessionModel M C R H K) (at : ℕ) (v : View M) : Type 0 where
+    pub seen : IsPrefix s.seen t.seen
+    pub version : v.version ≡ at
+    pub after : IsAfter step opening t.seen (at, arc_value v.state)
+    pub kept : t ≡ record (counted s) { seen = t.seen }
+
+  -- a query that was answered at a past version: after a view as for any query
+  pub record IsRecalled (step : M → C → (M × (R × K)) ⊎ R) (opening : List M) (s t : SessionModel M C R H K) (least at : ℕ) (v w : View M) : Type 0 where
+    pub between : SessionModel M C R H K
+    pub first : IsAnswered step opening s between least v
+    pub past : IsPastView step opening between t at w
+
+  -- a query that was not answered at a past version, after a view as for any query
+  pub record IsUnrecalled (step : M → C → (M × (R × K)) ⊎ R) (opening : List M) (s t : SessionModel M C R H K) (least at : ℕ) (f : PastFault) : Type 0 where
+    pub between : SessionModel M C R H K
+    pub view : View M
+    pub first : IsAnswered step opening s between least view
+    pub fault : IsPastFault (counted between) t at f
+    pub seen : IsPrefix between.seen t.seen
+
 module _ {M C R H K Q : Type 0} where
   -- what a request did to the session. `least` is the number of entries that a query asks for at least
   abbrev pub IsTurn : (M → C → (M × (R × K)) ⊎ R) → List M → (Q → ℕ) → SessionModel M C R H K → Turn M C R H K Q → SessionModel M C R H K → Type 0
@@ -68,3 +99,6 @@ module _ {M C R H K Q : Type 0} where
   IsTurn step opening least s (Unprepared cmd f) t = IsReadFault s t f × IsPrefix s.seen t.seen
   IsTurn step opening least s (Answered query v) t = IsAnswered step opening s t (least query) v
   IsTurn step opening least s (Unanswered query f) t = IsUnanswered step opening s t (least query) f
+  IsTurn step opening least s (Recalled query at v w) t = IsRecalled step opening s t (least query) at v w
+  IsTurn step opening least s (Unread query at f) t = IsUnanswered step opening s t (least query) f
+  IsTurn step opening least s (Unrecalled query at f) t = IsUnrecalled step opening s t (least query) at f

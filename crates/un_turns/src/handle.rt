@@ -1,17 +1,22 @@
-//! One request at a session: a command goes to the desk, and a query is answered without it if possible.
-ghost use Rattle.std.specs.Prelude.{IfOk, IfErr, IfSome, length, ◌≡◌};
+//! One request at a session: a command goes to the desk, and a query is answered without it if possible. A query at a past
+//! version also asks the desk, after a view as for any query.
+ghost use Rattle.std.specs.Prelude.{IfOk, IfErr, IfSome, None, length, ◌≡◌};
 ghost use mathlib.Core.List.{IsPrefix};
 ghost use Rattle.un_desk.specs.Desks.{IsSubmitted, IsDeskFault, counted};
 ghost use Rattle.un_turns.specs.Turns.{IsAnswered, IsUnanswered, view_fault};
 ghost use Rattle.un_turns.specs.Prepared.{IsPreparedAfter};
-ghost use Rattle.un_turns.specs.Served.{fault_response, IsServed, receipt_response, view_response};
+ghost use Rattle.un_turns.specs.Served.{fault_response, IsServed, past_response, receipt_response, view_response};
+ghost use Rattle.un_turns.specs.Pasts.{IsKeptFor, TakenLaw};
 
 use crate::answers::Answers;
 use crate::request::{Request, Response};
-use std::alloc::Global;
+use std::alloc::{AllocError, Global};
 use std::sync::Wait;
 use std::thread::Threads;
+use un_asof::Past;
+use un_asof::laws::stands_for_longer;
 use un_desk::desk::{Desk, ViewFault};
+use un_desk::past::PastFault;
 use un_journal::receipt::Receipt;
 use un_machine::Machine;
 use un_publish::published::{BoardName, Published, Snapshot};
@@ -66,6 +71,16 @@ fn view_response<R, A>(fault: ViewFault) -> Response<R, A>
         ViewFault::Ahead(ahead) => Response::Ahead(ahead),
         ViewFault::Denied(denied) => Response::Denied(denied),
         ViewFault::Memory => Response::Memory,
+    }
+}
+
+fn past_response<R, A>(fault: PastFault) -> Response<R, A>
+    ensures { result ≡ past_response fault }
+{
+    match fault {
+        PastFault::Ahead(ahead) => Response::NotYet(ahead),
+        PastFault::Denied(denied) => Response::Denied(denied),
+        PastFault::Memory => Response::Memory,
     }
 }
 
@@ -185,24 +200,91 @@ where
     }
 }
 
+// Takes the past that is kept, or makes one of the opening state.
+fn take_past<M: Machine, J: BoardName<M>>(
+    alloc: Global,
+    desk: &Desk<M, J>,
+    kept: &mut Option<Past<M, J>>,
+) -> Result<Past<M, J>, AllocError>
+where
+    Published<M, J>: Snapshot<State = Published<M, J>>,
+    ensures stands { IfOk result (TakenLaw M.Hint M.step J.opening kept.old) }
+    ensures taken { kept.new ≡ None }
+{
+    match kept.take() {
+        Some(past) => Ok(past),
+        None => desk.start_past(alloc),
+    }
+}
+
+// Handles a query at a past version. Other than its answer, the first view says how much of the log the caller has seen.
+fn answer_past<R: Wait, M: Machine, A: Answers<M>, J: BoardName<M>>(
+    rt: &R,
+    alloc: Global,
+    desk: &Desk<M, J>,
+    session: &mut Session<M, J>,
+    kept: &mut Option<Past<M, J>>,
+    at: u64,
+    query: A::Query,
+) -> Response<M::Reply, A::Answer>
+where
+    Published<M, J>: Snapshot<State = Published<M, J>>,
+    requires { IsKeptFor M.step J.opening kept.old session.old.seen }
+    ensures served { IsServed M.step J.opening A.least A.answer
+        session.old (Request.Past at query) result session.new }
+    ensures kept { IsKeptFor M.step J.opening kept.new session.new.seen }
+{
+    stands_for_longer::<M, J>();
+    let first = match view_at_least(rt, desk, session, A::least(&query)) {
+        Ok(view) => view,
+        Err(fault) => return view_response(fault),
+    };
+    let Ok(mut past) = take_past(alloc, desk, kept) else {
+        return Response::Memory;
+    };
+    let found = desk.past(rt, alloc, session, &mut past, at);
+    *kept = Some(past);
+    let shown = match found {
+        Ok(view) => view,
+        Err(fault) => return past_response(fault),
+    };
+    let Ok(answer) = A::answer(alloc, &shown.state, &query) else {
+        return Response::Memory;
+    };
+    Response::PastAnswer {
+        version: first.version.max(at),
+        answer,
+    }
+}
+
 /// Handles a request: one turn takes the session from its state before to its state after, and the response is that of
-/// the turn. It waits for the desk if the request is a command, or a query that asks for more entries of the log than
-/// the session finds. `Memory` and `Denied` come as from the calls of the session and the desk; `Memory` also if memory
-/// runs out while a query is answered, or while work is done for a command in advance. After both nothing was committed.
+/// the turn. It waits for the desk if the request is a command, a query that asks for more entries of the log than
+/// the session finds, or a query at a past version. `Memory` and `Denied` come as from the calls of the session and the
+/// desk; `Memory` also if memory runs out while a query is answered, while work is done for a command in advance, or
+/// while a past is made. After both nothing was committed.
+///
+/// The first query at a past version makes the past, which is then kept for the next ones.
 pub fn handle_request<R: Wait + Threads + Sync, M: Machine, A: Answers<M>, J: BoardName<M>>(
     rt: &R,
     alloc: Global,
     desk: &Desk<M, J>,
     session: &mut Session<M, J>,
+    kept: &mut Option<Past<M, J>>,
     request: Request<M::Cmd, A::Query>,
 ) -> Response<M::Reply, A::Answer>
 where
     Published<M, J>: Snapshot<State = Published<M, J>>,
-    ensures { IsServed M.step J.opening A.least A.answer session.old request result session.new }
+    requires { IsKeptFor M.step J.opening kept.old session.old.seen }
+    ensures served { IsServed M.step J.opening A.least A.answer session.old request result session.new }
+    ensures kept { IsKeptFor M.step J.opening kept.new session.new.seen }
 {
+    stands_for_longer::<M, J>();
     match request {
         Request::Other => Response::Nothing,
         Request::Command(cmd) => decide::<R, M, A, J>(rt, alloc, desk, session, cmd),
         Request::Query(query) => answer::<R, M, A, J>(rt, alloc, desk, session, query),
+        Request::Past { at, query } => {
+            answer_past::<R, M, A, J>(rt, alloc, desk, session, kept, at, query)
+        }
     }
 }

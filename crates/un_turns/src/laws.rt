@@ -1,7 +1,7 @@
 //! What holds of all requests that a session handles one after another. Each law is the contract of a function that does
 //! nothing.
 ghost use Rattle.un_turns.specs.Conversations.{SnocLaw, VersionLaw, OwnLaw, WaitLaw, TrueTurnsLaw, DenialLaw};
-ghost use Rattle.un_turns.specs.Truths.{ReplyLaw, MoreLaw, TruthLaw};
+ghost use Rattle.un_turns.specs.Truths.{LostLaw, ReplyLaw, MoreLaw, TruthLaw};
 ghost use Rattle.un_turns.specs.Prepared.{ReadFirstLaw, ReadFirstFaultLaw};
 
 use crate::answers::Answers;
@@ -26,8 +26,8 @@ pub fn own_entries_grow<M: Machine, A: Answers<M>, J: BoardName<M>>()
     ensures { OwnLaw M.Hint M.step J.opening A.least }
 {}
 
-/// The count of waits rises by at most one for each command, and one for each query that asks for more entries than
-/// are known.
+/// The count of waits rises by at most one for each command, one for each query that asks for more entries than are
+/// known, and one for each query at a past version.
 #[tactic(auto, using(crate::proofs::Waiting::waits_bounded))]
 pub fn waits_are_bounded<M: Machine, A: Answers<M>, J: BoardName<M>>()
     ensures { WaitLaw M.Hint M.step J.opening A.least }
@@ -46,7 +46,6 @@ pub fn denials_are_counted<M: Machine, A: Answers<M>, J: BoardName<M>>()
 {}
 
 /// The reply in a response is that of a step of the machine.
-#[tactic(auto, using(crate::proofs::Replying::replies_are_steps))]
 pub fn replies_are_steps<M: Machine, A: Answers<M>, J: BoardName<M>>()
     ensures { ReplyLaw M.Hint M.step J.opening A.least A.answer }
 {}
@@ -55,6 +54,11 @@ pub fn replies_are_steps<M: Machine, A: Answers<M>, J: BoardName<M>>()
 #[tactic(auto, using(crate::proofs::Serving::served_more))]
 pub fn one_more_request<M: Machine, A: Answers<M>, J: BoardName<M>>()
     ensures { MoreLaw M.Hint M.step J.opening A.least A.answer }
+{}
+
+/// If memory runs out before an answer at a past version is printed, the request may as well have had that response.
+pub fn past_answers_may_be_lost<M: Machine, A: Answers<M>, J: BoardName<M>>()
+    ensures { LostLaw M.Hint M.step J.opening A.least A.answer }
 {}
 
 /// All that is promised of requests and their responses holds if they were handled one after another.

@@ -10,9 +10,12 @@ pub enum Request<C, Q> {
     Other,
     Command(C),
     Query(Q),
+    /// The query at a past version: at the state after the first `at` entries of the log.
+    Past { at: u64, query: Q },
 }
 
-/// The response to a request. A version is the number of entries of the log at which the request was decided or answered.
+/// The response to a request. A version is the number of entries of the log at which the request was decided or answered,
+/// except at a past answer.
 #[derive(Drop)]
 pub enum Response<R, A> {
     /// The request asked nothing of the session.
@@ -20,8 +23,12 @@ pub enum Response<R, A> {
     Accepted { version: u64, reply: R },
     Refused { version: u64, reply: R },
     Answer { version: u64, answer: A },
+    /// The answer of a query at a past version. `version` is not below that one, nor below what was read before it.
+    PastAnswer { version: u64, answer: A },
     /// The query asks for more entries than the log has.
     Ahead(Ahead),
+    /// The past version is none yet: the log has fewer entries.
+    NotYet(Ahead),
     /// The session can't go on. The request did nothing else.
     Denied(Denied),
     /// Out of memory. The request did nothing.

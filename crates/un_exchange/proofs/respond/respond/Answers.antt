@@ -1,4 +1,4 @@
-use Rattle.un_exchange.specs.declared.asked.Asked.TheVariants.{Command, Query}
+use Rattle.un_exchange.specs.declared.asked.Asked.TheVariants.{Command, Query, Past}
 use Rattle.un_exchange.proofs.Handling.{handled_memory, handled_page, handled_session}
 use Rattle.un_exchange.proofs.respond.respond.Goals as goal
 
@@ -22,3 +22,9 @@ returns-in-Query-clause-handled g c =
     handled_session g.M.Machine.step g.J.BoardName.opening g.S.Answers.least g.S.Answers.answer g.S.Service.asks g.S.Service.printing c.args.session.now c.ask_session-in-Query.new.session c.args.inbox.now
     c.ask_session-in-Query.new.out.items c.ask_session-in-Query.result (Query c.in-Query.query)
     (rw (c.method.ensures, c.path.ensures, c.body.ensures, c.in-Query.is) at c.in-Ok.ensures) c.ask_session-in-Query.ensures.handled
+
+pub returns-in-Past-clause-handled : goal.returns-in-Past-clause-handled
+returns-in-Past-clause-handled g c =
+    handled_session g.M.Machine.step g.J.BoardName.opening g.S.Answers.least g.S.Answers.answer g.S.Service.asks g.S.Service.printing c.args.session.now c.ask_session-in-Past.new.session c.args.inbox.now
+    c.ask_session-in-Past.new.out.items c.ask_session-in-Past.result (Past c.in-Past.at c.in-Past.query)
+    (rw (c.method.ensures, c.path.ensures, c.body.ensures, c.in-Past.is) at c.in-Ok.ensures) c.ask_session-in-Past.ensures.handled
