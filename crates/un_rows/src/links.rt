@@ -6,6 +6,7 @@ mod doors;
 mod gated;
 mod heads;
 mod limits;
+mod past;
 mod pipelined;
 mod seen;
 mod short_door;

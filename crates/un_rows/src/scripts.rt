@@ -7,6 +7,7 @@ mod hostile;
 mod joints;
 mod makes;
 mod table;
+mod walks;
 mod zone;
 
 use std::alloc::{AllocError, Global};

@@ -39,6 +39,7 @@ line_is_no_memory s text = go (ask text) (never_memory text)
     go (Err Memory) other = absurd (other refl)
     go (Ok (request.Command c)) other = command_is_no_memory s c
     go (Ok (request.Query q)) other = answer_is_no_memory s (kept_basis s) q
+    go (Ok (request.Past q)) other = λ e. cc
 
 pub script_is_plain : IsPlain script
 script_is_plain = record {

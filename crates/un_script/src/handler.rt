@@ -13,6 +13,7 @@ ghost use Rattle.un_replies.specs.Replies.{print};
 ghost use Rattle.un_ask.specs.Replies.{HasFewEdits};
 ghost use Rattle.un_core.specs.Commands.{command_reply, state_after};
 ghost use Rattle.un_core.specs.Answers.{answer};
+ghost use Rattle.un_core.specs.Requests.{serve_only};
 ghost use Rattle.un_script.specs.Script.{bad_schema, reply_to_line, state_behind_line};
 
 use std::alloc::{AllocError, Global};
@@ -169,6 +170,15 @@ fn refuse(fault: ReadFault, out: &mut Vec<u8>) -> Result<(), AllocError>
     Ok(())
 }
 
+// Refuses a query at a past version.
+fn refuse_past(out: &mut Vec<u8>)
+    requires { vec_len out.old + REPLY_ROOM ≤ vec_capacity out.old }
+    ensures text { out.new.items ≡ out.old.items ++ (print serve_only ++ 10 ∷ []) }
+    ensures capacity { vec_capacity out.old ≤ vec_capacity out.new }
+{
+    print_line(&refused(Refusal::ServeOnly), out);
+}
+
 // Answers a line. Want of memory changes nothing.
 fn answer<L>(
     alloc: Global,
@@ -187,6 +197,10 @@ fn answer<L>(
     match read_request(alloc, line) {
         Ok(Request::Command(command)) => apply(alloc, net, &command, out),
         Ok(Request::Query(query)) => tell(alloc, net, &query, steps, out),
+        Ok(Request::Past(_)) => {
+            refuse_past(out);
+            Ok(())
+        }
         Err(fault) => refuse(fault, out),
     }
 }

@@ -19,12 +19,13 @@ use Rattle.un_core.specs.Logs.{LogEntry, LogLaw, history_of}
 use Rattle.un_core.specs.Requests.{FaithfulLaw}
 use Rattle.un_turns.specs.declared.request.Request.{Request}
 use Rattle.un_turns.specs.declared.request.Response.{Response}
-use Rattle.un_turns.specs.declared.request.Response.TheVariants.{Nothing, Accepted, Refused, Answer, Ahead, Denied, Memory}
+use Rattle.un_turns.specs.declared.request.Response.TheVariants.{Nothing, Accepted, Refused, Answer, PastAnswer, Ahead, NotYet, Denied, Memory}
 use Rattle.un_turns.specs.Truths.{IsTrueOf, AreTrueOf}
 use Rattle.un_exchange.specs.declared.asked.Asked.TheVariants as asked
 use Rattle.un_exchange.specs.Pages.{PageModel}
 use Rattle.un_exchange.specs.Exchanges.{request_of, requests, responses}
-use Rattle.un_serve.specs.Printing.{reply_page}
+use Rattle.un_serve.specs.declared.asking.NetQuery.{NetQuery}
+use Rattle.un_serve.specs.Printing.{reply_page, version_of}
 use Rattle.un_serve.specs.Asking.{NetAsked}
 use Rattle.un_serve.specs.Serving.{NetExchange, IsOfHistory, AreOfHistory, IsAtVersion, AreAtVersions, least_of, answer_of}
 use Rattle.un_serve.proofs.Versions.{done_version, refused_version, answer_version}
@@ -79,26 +80,45 @@ module _ (S : Setup) (catalog : IsCatalog S.schema) (first : List State) (is_fir
       ((step_law h.1 c).refused r (subst (λ (z : Command). step h.1 z ≡ inr r) (sym same) h.5)).1 ∙ command_at (take v seen) h.1 c (from_opening (take v seen) h.1 h.4)
   of_history number seen (asked.Query q) (Answer v page) h =
       let same : q ≡ h.0 = cc h.2 in
-      h.6 ∙ ap (λ (z : Query). answer_of h.1 z) (sym same) ∙ ap reply_page (query_at (take v seen) h.1 q (from_opening (take v seen) h.1 h.5))
+      h.6 ∙ ap (λ (z : NetQuery). answer_of h.1 z) (sym same) ∙ ap reply_page (query_at (take v seen) h.1 q.query (from_opening (take v seen) h.1 h.5))
+  of_history number seen (asked.Past at q) (PastAnswer v page) h =
+      let same_at : at ≡ h.0 = cc h.3 in
+      let same : q ≡ h.1 = cc h.3 in
+      let leads : Leads step (opening S) (take at seen) h.2 = subst (λ (n : ℕ). Leads step (opening S) (take n seen) h.2) (sym same_at) (from_opening (take h.0 seen) h.2 h.7) in (
+        subst (λ (n : ℕ). n ≤ v) (sym same_at) h.5,
+        h.8 ∙ ap (λ (z : NetQuery). answer_of h.2 z) (sym same) ∙ ap reply_page (query_at (take at seen) h.2 q.query leads),
+      )
   of_history number seen (asked.Page p) r h = tt
   of_history number seen (asked.Command c) Nothing h = tt
   of_history number seen (asked.Command c) (Answer v page) h = tt
+  of_history number seen (asked.Command c) (PastAnswer v page) h = tt
   of_history number seen (asked.Command c) (Ahead x) h = tt
+  of_history number seen (asked.Command c) (NotYet x) h = tt
   of_history number seen (asked.Command c) (Denied d) h = tt
   of_history number seen (asked.Command c) Memory h = tt
   of_history number seen (asked.Query q) Nothing h = tt
   of_history number seen (asked.Query q) (Accepted v r) h = tt
   of_history number seen (asked.Query q) (Refused v r) h = tt
+  of_history number seen (asked.Query q) (PastAnswer v page) h = tt
   of_history number seen (asked.Query q) (Ahead x) h = tt
+  of_history number seen (asked.Query q) (NotYet x) h = tt
   of_history number seen (asked.Query q) (Denied d) h = tt
   of_history number seen (asked.Query q) Memory h = tt
+  of_history number seen (asked.Past at q) Nothing h = tt
+  of_history number seen (asked.Past at q) (Accepted v r) h = tt
+  of_history number seen (asked.Past at q) (Refused v r) h = tt
+  of_history number seen (asked.Past at q) (Answer v page) h = tt
+  of_history number seen (asked.Past at q) (Ahead x) h = tt
+  of_history number seen (asked.Past at q) (NotYet x) h = tt
+  of_history number seen (asked.Past at q) (Denied d) h = tt
+  of_history number seen (asked.Past at q) Memory h = tt
 
   pub all_of_history : (number : ℕ) (seen : List LogEntry) (xs : List NetExchange) → AreTrueOf step first least_of answer_of number seen (requests xs) (responses xs) → AreOfHistory S seen xs
   all_of_history number seen [] h = none (λ (x : NetExchange). IsOfHistory S seen x.asked x.response)
   all_of_history number seen (x ∷ xs) h =
       All-cons (λ (x : NetExchange). IsOfHistory S seen x.asked x.response) x xs (of_history number seen x.asked x.response h.0) (all_of_history number seen xs h.1)
 
-  at_version : (number : ℕ) (seen : List LogEntry) (q : Request Command Query) (r : Response Reply PageModel) → IsTrueOf step first least_of answer_of number seen q r → IsAtVersion r
+  at_version : (number : ℕ) (seen : List LogEntry) (q : Request Command NetQuery) (r : Response Reply PageModel) → IsTrueOf step first least_of answer_of number seen q r → IsAtVersion r
   at_version number seen q (Accepted v r) h =
       let last = h.5 in
       let leads = leads_last (opening S) h.1 last.before last.entry (subst (λ (l : List LogEntry). Leads step (opening S) l h.1) last.last (from_opening (take v seen) h.1 h.4)) in
@@ -114,9 +134,16 @@ module _ (S : Setup) (catalog : IsCatalog S.schema) (first : List State) (is_fir
   at_version number seen q (Answer v page) h =
       let here = (log_law S (take v seen) h.1 catalog (from_opening (take v seen) h.1 h.5)).1 in
       let count = length-take-le v seen h.4 in
-      (answer h.1 h.0, h.6, answer_version h.1 h.0 ∙ here ∙ count)
+      (answer h.1 h.0.query, h.6, answer_version h.1 h.0.query ∙ here ∙ count)
+  at_version number seen q (PastAnswer v page) h =
+      let here = (log_law S (take h.0 seen) h.2 catalog (from_opening (take h.0 seen) h.2 h.7)).1 in
+      let within : h.0 ≤ length seen = omega (arith, h.5, h.6) in
+      let count = length-take-le h.0 seen within in
+      let reported : version_of (answer h.2 h.1.query) ≡ h.0 = answer_version h.2 h.1.query ∙ here ∙ count in
+      (answer h.2 h.1.query, h.8, subst (λ (n : ℕ). n ≤ v) (sym reported) h.5)
   at_version number seen q Nothing h = tt
   at_version number seen q (Ahead a) h = tt
+  at_version number seen q (NotYet a) h = tt
   at_version number seen q (Denied d) h = tt
   at_version number seen q Memory h = tt
 

@@ -1,5 +1,5 @@
 -- The version that a reply reports is that of the state at which it was given.
-use Rattle.std.proofs.Common.{◌≡◌, ◌+◌, ℕ, Bool, true, false, List, length, Option, Some, None, refl, ap, sym, ◌∙◌, inl, inr}
+use Rattle.std.proofs.Common.{◌≡◌, ◌+◌, ℕ, Bool, true, false, List, length, Result, Ok, Err, Option, Some, None, refl, ap, sym, ◌∙◌, inl, inr}
 use Rattle.std.specs.Prelude.{if◌then◌else◌}
 use Rattle.std.specs.Option.{option_map_or}
 use Rattle.un_geom.specs.Rectangle.{Rectangle}
@@ -24,6 +24,7 @@ use Rattle.un_ask.specs.declared.stored.StoredSubnet.{StoredSubnet}
 use Rattle.un_ask.specs.declared.typed.TypedAsk.{TypedAsk}
 use Rattle.un_tiers.specs.Lists.{tier_named}
 use Rattle.un_resolve.specs.Resolved.{resolved, resolving_refusal}
+use Rattle.un_resolve.specs.Walks.{path_asked, check_asked, diagram_asked}
 use Rattle.un_trace.specs.TraceReply.{trace_reply, reply_given_dirt, lists_controllers, controllers_reply, result_reply}
 use Rattle.un_loops.specs.Answer.{loops_reply, loops_given_dirt}
 use Rattle.un_isolate.specs.Isolation.{Isolation}
@@ -35,7 +36,8 @@ use Rattle.un_core.specs.Feature.{feature_of_row}
 use Rattle.un_core.specs.Commands.{Stepped, step, command_refusal, refusal_reply, accepted, word_of, areas_of_edit}
 use Rattle.un_core.specs.Step.{id_of, next_state, dirtied_by}
 use Rattle.un_core.specs.Refusals.{refused}
-use Rattle.un_core.specs.Answers.{kept_basis, answer, asked_on, query_refusal, feature_reply, row_reply, row_in_tier, subnet_reply, traced_on, at_version, is_loops, survey_for, reached_from}
+use Rattle.un_core.specs.Answers.{kept_basis, answer, asked_on, query_refusal, feature_reply, row_reply, row_in_tier, subnet_reply, traced_on, at_version, is_loops, survey_for, kept_survey, reached_from, answered_or, path_over, check_over, diagram_over}
+use Rattle.un_core.proofs.WalkReplies.{IsOfWalk, path_is, check_is, diagram_is}
 
 -- ---- commands
 
@@ -122,6 +124,17 @@ subnet_version s tier subnet = named (tier_named s.setup.tiers tier)
     named None = refl
     named (Some number) = found _
 
+walk_version : (v : ℕ) (r : Reply) → IsOfWalk r → version_of (at_version v r) ≡ v
+walk_version v (reply.Path cost labels nodes version) is = refl
+walk_version v (reply.Check valid version) is = refl
+walk_version v (reply.Diagram edges kept pieces version) is = refl
+walk_version v (reply.Refused refusal edit version) is = refl
+walk_version v _ is = absurd is
+
+answered_version : {A : Type 0} (s : State) (answer : A → Reply) (asked : Result A Refusal) → ((a : A) → version_of (answer a) ≡ s.version) → version_of (answered_or s answer asked) ≡ s.version
+answered_version s answer (Err r) versions = refl
+answered_version s answer (Ok a) versions = versions a
+
 asked_version : (s : State) (what : Question) → version_of (asked_on s (kept_basis s) what) ≡ s.version
 asked_version s question.Version = refl
 asked_version s (question.Feature id) = feature_version s id
@@ -132,6 +145,15 @@ asked_version s (question.Trace ask) =
     let typed = resolved s.setup s.features ask in
     let over = survey_for (kept_basis s) typed.barriers.consistent in
     resolved_version s (resolving_refusal s.setup s.features ask) (traced_on (kept_basis s) typed) (over_version s.version (is_loops typed.kind) (is_isolation typed.kind) over.topology typed (reached_from over typed))
+asked_version s (question.Path ask) =
+    answered_version s (λ typed. at_version s.version (path_over (kept_survey s) typed)) (path_asked s.setup.schema s.features ask)
+    (λ typed. walk_version s.version (path_over (kept_survey s) typed) (path_is (kept_survey s) typed))
+asked_version s (question.Check ask) =
+    answered_version s (λ typed. at_version s.version (check_over (kept_survey s) typed)) (check_asked s.setup.schema s.features ask)
+    (λ typed. walk_version s.version (check_over (kept_survey s) typed) (check_is (kept_survey s) typed))
+asked_version s (question.Diagram ask) =
+    answered_version s (λ typed. at_version s.version (diagram_over (kept_survey s) typed)) (diagram_asked s.setup.schema s.features ask)
+    (λ typed. walk_version s.version (diagram_over (kept_survey s) typed) (diagram_is (kept_survey s) typed))
 
 pub answer_version : (s : State) (q : Query) → version_of (answer s q) ≡ s.version
 answer_version s q = resolved_version s (query_refusal s q) (asked_on s (kept_basis s) q.what) (asked_version s q.what)

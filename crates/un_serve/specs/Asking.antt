@@ -8,6 +8,7 @@ use Rattle.un_ask.specs.declared.request.Command.{Command}
 use Rattle.un_ask.specs.declared.request.Request.{Request}
 use Rattle.un_ask.specs.declared.request.Request.TheVariants as request
 use Rattle.un_ask.specs.declared.query.Query.{Query}
+use Rattle.un_ask.specs.declared.query.PastQuery.{PastQuery}
 use Rattle.un_ask.specs.declared.query.Asked.{Asked as Question}
 use Rattle.un_ask.specs.declared.query.Asked.TheVariants as question
 use Rattle.un_json.specs.declared.fault.ReadFault.{ReadFault}
@@ -17,11 +18,20 @@ use Rattle.un_exchange.specs.declared.asked.Asked.{Asked}
 use Rattle.un_exchange.specs.declared.asked.Asked.TheVariants as asked
 use Rattle.un_exchange.specs.declared.status.Status.TheVariants as status
 use Rattle.un_exchange.specs.Pages.{http_page}
+use Rattle.un_serve.specs.declared.asking.NetQuery.{NetQuery}
 use Rattle.un_serve.specs.Printing.{reply_page}
 
 -- a command, a query, or a page
 abbrev pub NetAsked : Type 0
-NetAsked = Asked Command Query
+NetAsked = Asked Command NetQuery
+
+-- a question, which asks for its `seen` at least
+abbrev pub now_query : Query → NetQuery
+now_query q = record { seen = q.seen; query = q }
+
+-- a question about a past version: its `seen` is about what is read, and not about the past
+abbrev pub past_query : PastQuery → NetQuery
+past_query p = record { seen = p.seen; query = record { seen = 0; what = p.what } }
 
 -- a body that is no request
 abbrev pub fault_asked : ReadFault → NetAsked
@@ -31,17 +41,19 @@ fault_asked fault = asked.Page (reply_page (fault_reply fault))
 abbrev pub command_asked : Result Request ReadFault → NetAsked
 command_asked (Ok (request.Command command)) = asked.Command command
 command_asked (Ok (request.Query query)) = fault_asked (BadRequest place.Do)
+command_asked (Ok (request.Past past)) = fault_asked (BadRequest place.Do)
 command_asked (Err fault) = fault_asked fault
 
 -- the body of `POST /queries`: a request without `ask` is none
 abbrev pub query_asked : Result Request ReadFault → NetAsked
 query_asked (Ok (request.Command command)) = fault_asked (BadRequest place.Ask)
-query_asked (Ok (request.Query query)) = asked.Query query
+query_asked (Ok (request.Query query)) = asked.Query (now_query query)
+query_asked (Ok (request.Past past)) = asked.Past past.at (past_query past)
 query_asked (Err fault) = fault_asked fault
 
 -- a query that any version may answer
 abbrev pub find : Question → NetAsked
-find what = asked.Query (record { seen = 0; what = what })
+find what = asked.Query (now_query (record { seen = 0; what = what }))
 
 -- the query of a subnetwork, by the places of its names in the path
 abbrev pub subnet_asked : List ℕ → ℕ × ℕ → ℕ × ℕ → NetAsked

@@ -5,7 +5,7 @@ use Rattle.un_defs.specs.declared.refusal.Refusal.TheVariants as refusal
 use Rattle.un_ask.specs.declared.reply.Reply.{Reply}
 use Rattle.un_ask.specs.declared.reply.Reply.TheVariants as reply
 use Rattle.un_replies.specs.Commands.{IsOfCommand, HasFewIds}
-use Rattle.un_replies.specs.Replies.{print}
+use Rattle.un_replies.specs.Replies.{print, past_around}
 use Rattle.un_exchange.specs.declared.status.Status.{Status}
 use Rattle.un_exchange.specs.declared.status.Status.TheVariants as status
 use Rattle.un_exchange.specs.Pages.{PageModel, page}
@@ -16,6 +16,7 @@ abbrev pub refusal_status : Refusal → Status
 refusal_status refusal.NotJson = status.BadRequest
 refusal_status (refusal.BadRequest place) = status.BadRequest
 refusal_status (refusal.Ahead seen latest) = status.Conflict
+refusal_status (refusal.NotYet at latest) = status.Conflict
 refusal_status other = status.Unprocessable
 
 -- the status of a reply
@@ -31,12 +32,26 @@ reply_page r = page (reply_status r) (print r)
 abbrev pub ahead_reply : ℕ → ℕ → Reply
 ahead_reply seen latest = reply.Refused (refusal.Ahead seen latest) None 0
 
+-- the refusal of a query at a version that is over the latest
+abbrev pub not_yet_reply : ℕ → ℕ → Reply
+not_yet_reply at latest = reply.Refused (refusal.NotYet at latest) None 0
+
+-- an answer at a past version, whatever its own status, in a response at a version
+abbrev pub past_page : ℕ → PageModel → PageModel
+past_page version answer = page status.Ok (past_around answer.body version)
+
 -- a reply that fits in the room for it
 abbrev pub Fits : Reply → Type 0
 Fits r = IsOfCommand r × HasFewIds r
 
 abbrev pub printing : Printing Reply PageModel
-printing = record { reply = reply_page; answer = λ answer. answer; ahead = λ seen latest. print (ahead_reply seen latest) }
+printing = record {
+  reply = reply_page;
+  answer = λ answer. answer;
+  past = past_page;
+  ahead = λ seen latest. print (ahead_reply seen latest);
+  not_yet = λ at latest. print (not_yet_reply at latest);
+}
 
 -- the version that a reply reports
 abbrev pub version_of : Reply → ℕ
@@ -54,4 +69,7 @@ version_of (reply.Traced result version) = version
 version_of (reply.Controllers controllers version) = version
 version_of (reply.Loops segments version) = version
 version_of (reply.Isolation borders features version) = version
+version_of (reply.Path cost labels nodes version) = version
+version_of (reply.Check valid version) = version
+version_of (reply.Diagram edges kept pieces version) = version
 version_of (reply.Refused refusal edit version) = version

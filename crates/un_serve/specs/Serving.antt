@@ -1,12 +1,11 @@
 -- What holds of a link of the server.
-use Rattle.std.specs.Prelude.{◌≡◌, ◌⊎◌, ℕ, ◌-◌, List, [], ◌∷◌, Option, take, ⊤}
+use Rattle.std.specs.Prelude.{◌≡◌, ◌≤◌, ◌⊎◌, ℕ, ◌-◌, List, [], ◌∷◌, Option, take, ⊤}
 use Rattle.std.specs.List.{All}
 use Rattle.un_geom.specs.Rectangle.{Rectangle}
 use Rattle.un_schema.specs.Sound.{IsCatalog}
 use Rattle.un_tiers.specs.declared.setup.Setup.{Setup}
 use Rattle.un_publish.specs.Models.{SessionModel}
 use Rattle.un_ask.specs.declared.request.Command.{Command}
-use Rattle.un_ask.specs.declared.query.Query.{Query}
 use Rattle.un_ask.specs.declared.reply.Reply.{Reply}
 use Rattle.un_core.specs.declared.prepared.Prepared.{Prepared}
 use Rattle.un_core.specs.State.{State, opening}
@@ -15,22 +14,23 @@ use Rattle.un_core.specs.Answers.{answer}
 use Rattle.un_core.specs.HistoryAnswers.{answer_after, command_reply_after}
 use Rattle.un_core.specs.Logs.{LogEntry, history_of}
 use Rattle.un_turns.specs.declared.request.Response.{Response}
-use Rattle.un_turns.specs.declared.request.Response.TheVariants.{Accepted, Refused, Answer}
+use Rattle.un_turns.specs.declared.request.Response.TheVariants.{Accepted, Refused, Answer, PastAnswer}
 use Rattle.un_exchange.specs.declared.asked.Asked.TheVariants as asked
 use Rattle.un_exchange.specs.declared.end.LinkEnd.{LinkEnd}
 use Rattle.un_exchange.specs.Pages.{PageModel}
 use Rattle.un_exchange.specs.Exchanges.{Exchange}
 use Rattle.un_exchange.specs.Links.{HasServed, HasNoRoom}
+use Rattle.un_serve.specs.declared.asking.NetQuery.{NetQuery}
 use Rattle.un_serve.specs.Printing.{reply_page, printing, version_of}
 use Rattle.un_serve.specs.Asking.{NetAsked, Asks}
 
 -- how many entries of the log a query asks for at least
-abbrev pub least_of : Query → ℕ
+abbrev pub least_of : NetQuery → ℕ
 least_of q = q.seen
 
 -- the answer of a query at a state, as a page
-abbrev pub answer_of : State → Query → PageModel
-answer_of s q = reply_page (answer s q)
+abbrev pub answer_of : State → NetQuery → PageModel
+answer_of s q = reply_page (answer s q.query)
 
 -- a session of a network
 abbrev pub NetSession : Type 0
@@ -38,24 +38,26 @@ NetSession = SessionModel State Command Reply Prepared (List Rectangle)
 
 -- a request of a link and its response
 abbrev pub NetExchange : Type 0
-NetExchange = Exchange Command Reply Query PageModel
+NetExchange = Exchange Command Reply NetQuery PageModel
 
--- A response is determined by the accepted commands: an accepted command's reply by those before its entry, and a refused one's and an answer by the
--- first so many as the version says.
+-- A response is determined by the accepted commands: an accepted command's reply by those before its entry, a refused one's and an answer by the first
+-- so many as the version says, and an answer at a past version by the first so many as that one says, which is none over the response's.
 abbrev pub IsOfHistory : Setup → List LogEntry → NetAsked → Response Reply PageModel → Type 0
 IsOfHistory S seen (asked.Command c) (Accepted v r) = r ≡ command_reply_after S (history_of (take (v - 1) seen)) c
 IsOfHistory S seen (asked.Command c) (Refused v r) = r ≡ command_reply_after S (history_of (take v seen)) c
-IsOfHistory S seen (asked.Query q) (Answer v page) = page ≡ reply_page (answer_after S (history_of (take v seen)) q)
+IsOfHistory S seen (asked.Query q) (Answer v page) = page ≡ reply_page (answer_after S (history_of (take v seen)) q.query)
+IsOfHistory S seen (asked.Past at q) (PastAnswer v page) = (at ≤ v) × (page ≡ reply_page (answer_after S (history_of (take at seen)) q.query))
 IsOfHistory S seen _ _ = ⊤
 
 abbrev pub AreOfHistory : Setup → List LogEntry → List NetExchange → Type 0
 AreOfHistory S seen xs = All (λ x. IsOfHistory S seen x.asked x.response) xs
 
--- a reply reports the version of its response
+-- a reply reports the version of its response, and an answer at a past version none over it
 abbrev pub IsAtVersion : Response Reply PageModel → Type 0
 IsAtVersion (Accepted v r) = version_of r ≡ v
 IsAtVersion (Refused v r) = version_of r ≡ v
 IsAtVersion (Answer v page) = (r : Reply) × (page ≡ reply_page r) × (version_of r ≡ v)
+IsAtVersion (PastAnswer v page) = (r : Reply) × (page ≡ reply_page r) × (version_of r ≤ v)
 IsAtVersion _ = ⊤
 
 abbrev pub AreAtVersions : List NetExchange → Type 0

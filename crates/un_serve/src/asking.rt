@@ -5,17 +5,47 @@ ghost use Rattle.un_http.specs.declared.route.Route.TheVariants.{Subnetwork};
 ghost use Rattle.un_json.specs.Requests.{ask};
 ghost use Rattle.un_exchange.specs.declared.asked.Asked.TheVariants.{Page as PageOf};
 ghost use Rattle.un_exchange.specs.Pages.{http_page};
-ghost use Rattle.un_serve.specs.Asking.{Asks, command_asked, fault_asked, find, query_asked, subnet_asked};
+ghost use Rattle.un_serve.specs.Asking.{Asks, command_asked, fault_asked, find, now_query, past_query, query_asked, subnet_asked};
 
 use crate::printing::reply_page;
 use std::alloc::{AllocError, Global};
-use un_ask::{Asked as Question, Command, Name, Place, Query, Request};
+use un_ask::{Asked as Question, Command, Name, PastQuery, Place, Query, Request};
 use un_exchange::{Asked, Page, Status};
 use un_http::{Route, Routes};
 use un_json::{ReadFault, read_request};
 
+/// A question, and the least version that may be read for it.
+#[derive(Drop)]
+pub struct NetQuery {
+    pub seen: u64,
+    pub query: Query,
+}
+
 /// What a request asks of a network.
-pub(crate) type NetAsked = Asked<Command, Query>;
+pub(crate) type NetAsked = Asked<Command, NetQuery>;
+
+// A question, which asks for its `seen` at least.
+fn now_query(query: Query) -> NetQuery
+    ensures { result ≡ now_query query }
+{
+    NetQuery {
+        seen: query.seen,
+        query,
+    }
+}
+
+// A question about a past version.
+fn past_query(past: PastQuery) -> NetQuery
+    ensures { result ≡ past_query past }
+{
+    NetQuery {
+        seen: past.seen,
+        query: Query {
+            seen: 0,
+            what: past.what,
+        },
+    }
+}
 
 // A body that is no request.
 fn fault_asked(alloc: Global, fault: ReadFault) -> Result<NetAsked, AllocError>
@@ -34,6 +64,7 @@ fn command_asked(alloc: Global, body: &[u8]) -> Result<NetAsked, AllocError>
     match read_request(alloc, body) {
         Ok(Request::Command(command)) => Ok(Asked::Command(command)),
         Ok(Request::Query(_)) => fault_asked(alloc, ReadFault::BadRequest { place: Place::Do }),
+        Ok(Request::Past(_)) => fault_asked(alloc, ReadFault::BadRequest { place: Place::Do }),
         Err(fault) => fault_asked(alloc, fault),
     }
 }
@@ -44,7 +75,11 @@ fn query_asked(alloc: Global, body: &[u8]) -> Result<NetAsked, AllocError>
 {
     match read_request(alloc, body) {
         Ok(Request::Command(_)) => fault_asked(alloc, ReadFault::BadRequest { place: Place::Ask }),
-        Ok(Request::Query(query)) => Ok(Asked::Query(query)),
+        Ok(Request::Query(query)) => Ok(Asked::Query(now_query(query))),
+        Ok(Request::Past(past)) => Ok(Asked::Past {
+            at: past.at,
+            query: past_query(past),
+        }),
         Err(fault) => fault_asked(alloc, fault),
     }
 }
@@ -61,7 +96,7 @@ fn http_asked(alloc: Global, status: Status) -> Result<NetAsked, AllocError>
 fn find(what: Question) -> NetAsked
     ensures { result ≡ find what }
 {
-    Asked::Query(Query { seen: 0, what })
+    Asked::Query(now_query(Query { seen: 0, what }))
 }
 
 // The name in a path.

@@ -1,11 +1,11 @@
 //! What replies are printed as.
 ghost use Rattle.std.specs.Prelude.{◌≡◌, IfOk};
-ghost use Rattle.un_serve.specs.Printing.{refusal_status, reply_page, reply_status};
+ghost use Rattle.un_serve.specs.Printing.{past_page, refusal_status, reply_page, reply_status};
 
 use std::alloc::{AllocError, Global};
 use un_ask::{Refusal, Reply};
 use un_exchange::{Page, Status};
-use un_replies::print_reply;
+use un_replies::{print_past, print_reply};
 
 // The status of a refusal.
 fn refusal_status(refusal: &Refusal) -> Status
@@ -13,7 +13,7 @@ fn refusal_status(refusal: &Refusal) -> Status
 {
     match refusal {
         Refusal::NotJson | Refusal::BadRequest { .. } => Status::BadRequest,
-        Refusal::Ahead { .. } => Status::Conflict,
+        Refusal::Ahead { .. } | Refusal::NotYet { .. } => Status::Conflict,
         _ => Status::Unprocessable,
     }
 }
@@ -35,4 +35,13 @@ pub(crate) fn reply_page(alloc: Global, reply: &Reply) -> Result<Page, AllocErro
     let mut body = Vec::new(alloc);
     print_reply(alloc, reply, &mut body)?;
     Ok(Page::new(reply_status(reply), body))
+}
+
+/// An answer at a past version, whatever its own status, in a response at a version.
+pub(crate) fn past_page(alloc: Global, version: u64, answer: &Page) -> Result<Page, AllocError>
+    ensures { IfOk result (λ page. page ≡ past_page version answer.now) }
+{
+    let mut body = Vec::new(alloc);
+    print_past(answer.body(), version, &mut body)?;
+    Ok(Page::new(Status::Ok, body))
 }

@@ -1,15 +1,17 @@
 //! A network as what the links of the server ask.
-ghost use Rattle.std.specs.Prelude.{◌≡◌, IfOk};
+ghost use Rattle.std.specs.Prelude.{◌≡◌, ◌≤◌, [], None, IfOk, vec_capacity};
+ghost use Rattle.un_ask.specs.declared.reply.Reply.TheVariants.{Refused};
 ghost use Rattle.un_ask.specs.Replies.{HasFewEdits};
+ghost use Rattle.un_replies.specs.Replies.{print};
 
-use crate::asking::{NetAsked, read_asked};
-use crate::printing::{reply_page, reply_status};
+use crate::asking::{NetAsked, NetQuery, read_asked};
+use crate::printing::{past_page, reply_page, reply_status};
 use std::alloc::{AllocError, Global};
 use std::thread::Threads;
-use un_ask::{Command, Query, Refusal, Reply};
+use un_ask::{Command, Refusal, Reply};
 use un_core::laws::steps_reply;
 use un_core::{Net, Prepared};
-use un_exchange::{Page, Service, Status};
+use un_exchange::{Page, REPLY_ROOM, Service, Status};
 use un_http::Routes;
 use un_journal::receipt::Ahead;
 use un_replies::print_command_reply;
@@ -41,11 +43,26 @@ fn few_edits(command: &Command)
     }
 }
 
+// Prints a refusal that tells no version of the network. It takes no memory.
+fn print_refusal(refusal: Refusal, out: &mut Vec<u8>)
+    requires empty { out.old.items ≡ [] }
+    requires room { REPLY_ROOM ≤ vec_capacity out.old }
+    ensures text { out.new.items ≡ print (Refused refusal None 0) }
+    ensures capacity { vec_capacity out.old ≤ vec_capacity out.new }
+{
+    let reply = Reply::Refused {
+        refusal,
+        edit: None,
+        version: 0,
+    };
+    print_command_reply(&reply, out);
+}
+
 /// A query is answered by the network, and printed.
 impl Answers<Net> for NetService {
     ghost use Rattle.un_serve.specs.Serving.{least_of, answer_of};
 
-    type Query = Query;
+    type Query = NetQuery;
 
     type Answer = Page;
 
@@ -53,13 +70,13 @@ impl Answers<Net> for NetService {
 
     ghost answer = { answer_of };
 
-    fn least(query: &Query) -> u64 {
+    fn least(query: &NetQuery) -> u64 {
         query.seen
     }
 
-    fn answer(alloc: Global, state: &Net, query: &Query) -> Result<Page, AllocError> {
+    fn answer(alloc: Global, state: &Net, query: &NetQuery) -> Result<Page, AllocError> {
         let mut steps = Steps::<()>::new();
-        let reply = state.answer(alloc, query, &mut steps)?;
+        let reply = state.answer(alloc, &query.query, &mut steps)?;
         reply_page(alloc, &reply)
     }
 
@@ -112,19 +129,30 @@ impl Service<Net> for NetService {
     }
 
     fn print_ahead(ahead: &Ahead, out: &mut Vec<u8>) {
-        let refusal = Refusal::Ahead {
-            seen: ahead.seen(),
-            latest: ahead.latest(),
-        };
-        let reply = Reply::Refused {
-            refusal,
-            edit: None,
-            version: 0,
-        };
-        print_command_reply(&reply, out);
+        print_refusal(
+            Refusal::Ahead {
+                seen: ahead.seen(),
+                latest: ahead.latest(),
+            },
+            out,
+        );
+    }
+
+    fn print_not_yet(ahead: &Ahead, out: &mut Vec<u8>) {
+        print_refusal(
+            Refusal::NotYet {
+                at: ahead.seen(),
+                latest: ahead.latest(),
+            },
+            out,
+        );
     }
 
     fn answer_page(answer: Page) -> Page {
         answer
+    }
+
+    fn past_page(alloc: Global, version: u64, answer: Page) -> Result<Page, AllocError> {
+        past_page(alloc, version, &answer)
     }
 }

@@ -1,6 +1,6 @@
 //! Links of one or a few requests, cut at every byte.
 
-use super::gives_however_cut;
+use super::{gives_however_cut, past};
 use std::alloc::{AllocError, Global};
 use std::sync::Wait;
 use std::test::Fail;
@@ -8,7 +8,7 @@ use std::thread::Threads;
 use un_serve::LinkEnd;
 
 // Inputs, with the output and the end.
-const LINKS: [(&[u8], &str, LinkEnd); 22] = [
+const LINKS: [(&[u8], &str, LinkEnd); 23] = [
     (b"", "", LinkEnd::Closed),
     (
         b"GET /version HTTP/1.1\r\nHost: a\r\n\r\n",
@@ -115,6 +115,7 @@ const LINKS: [(&[u8], &str, LinkEnd); 22] = [
         "HTTP/1.1 400 Bad Request\r\nContent-Type: application/json\r\nContent-Length: 28\r\n\r\n{\"error\":1,\"name\":\"NotJson\"}HTTP/1.1 200 OK\r\nContent-Type: application/json\r\nContent-Length: 28\r\n\r\n{\"ok\":\"version\",\"version\":0}",
         LinkEnd::Closed,
     ),
+    (past::INPUT, past::OUTPUT, LinkEnd::Closed),
 ];
 
 // The first of the inputs that has other responses, or another end.

@@ -2,6 +2,7 @@
 use super::Row;
 use super::devices::*;
 use super::joints::*;
+use super::walks::*;
 use super::zone::*;
 
 // The schema with joints and pipes.
@@ -22,7 +23,7 @@ pub(super) const SHARED_POINT: Row = Row {
     parts: &[SHARED_DIRTY_POINT],
 };
 
-pub(super) const ROWS: [Row; 27] = [
+pub(super) const ROWS: [Row; 31] = [
     Row {
         name: "schema alone",
         schema: PIPES,
@@ -153,5 +154,25 @@ pub(super) const ROWS: [Row; 27] = [
         name: "rule while running",
         schema: WATER,
         parts: &[RULE_WHILE_RUNNING],
+    },
+    Row {
+        name: "shortest path",
+        schema: WATER,
+        parts: &[SHORTEST_PATH],
+    },
+    Row {
+        name: "certificates",
+        schema: WATER,
+        parts: &[SHORTEST_PATH, CERTIFICATES],
+    },
+    Row {
+        name: "collapsed diagram and unknown condition",
+        schema: WATER,
+        parts: &[ZONE, ISOLATION, DIAGRAM],
+    },
+    Row {
+        name: "past version in a script",
+        schema: PIPES,
+        parts: &[SERVE_ONLY],
     },
 ];
