@@ -122,6 +122,10 @@ def any_of(root, schema, argument, value, where):
     return None if None in faults else branch_fault(root, schema, argument, value, where, faults)
 
 
+def not_(root, schema, argument, value, where):
+    return None if fault_of(root, argument, value, where) else f"{where} is {short(value)}, which is excluded"
+
+
 def required(root, schema, argument, value, where):
     if isinstance(value, dict):
         for name in argument:
@@ -217,6 +221,7 @@ KEYWORDS = {
     "enum": enum,
     "oneOf": one_of,
     "anyOf": any_of,
+    "not": not_,
     "required": required,
     "properties": properties,
     "additionalProperties": additional,

@@ -86,6 +86,7 @@ class Network:
         self.schema = Schema(parse("the script", *lines[0]))
         self.features, self.controllers = {}, {}
         self.dirty, self.errors, self.trace, self.asked = [], [], None, None
+        self.path, self.ends, self.diagram, self.drawn = None, [], None, None
         if len(told) != len(lines) - 1:
             raise Fault(f"the script has {len(lines) - 1} requests, and there are {len(told)} replies")
         for (number, line), reply in zip(lines[1:], enumerate(told, 1)):
@@ -106,6 +107,10 @@ class Network:
             self.errors = reply["errors"]
         elif request.get("ask") == "trace":
             self.trace, self.asked = reply, request
+        elif request.get("ask") == "path":
+            self.path, self.ends = reply, [request["from"], request["to"]]
+        elif request.get("ask") == "diagram":
+            self.diagram, self.drawn = reply, request
 
     def edit(self, edit, id):
         word = edit["do"]
@@ -163,7 +168,25 @@ class Network:
         return {id for id, _ in (self.trace or {}).get("borders", []) if id in self.features}
 
     def starts(self):
-        return [tuple(port) for port in (self.asked or {}).get("starts", [])]
+        """The starts of the last trace and of the last diagram."""
+        return list(dict.fromkeys(tuple(port) for request in (self.asked, self.drawn) for port in (request or {}).get("starts", [])))
+
+    def point(self, port):
+        """Where a port stands, or None where its feature or its vertex is not there any more."""
+        id, number = port
+        points = self.features[id].points if id in self.features else []
+        at = number if len(points) > 1 else 0
+        return points[at] if at < len(points) else None
+
+    def neighbour(self, port):
+        """The point of the next vertex of a line, or of the one before its last; None of a port that is no vertex of a line."""
+        id, number = port
+        return self.point((id, number + 1 if self.is_segment(id, number) else number - 1)) if self.features[id].kind.sort == "line" else None
+
+    def steps(self):
+        """From where to where the walk of the last path leads, step by step, without the steps that stay at a point."""
+        points = [self.point(port) for port in (self.path or {}).get("nodes", [])]
+        return [(start, end) for start, end in zip(points, points[1:]) if start and end and start != end]
 
 
 def parse(what, number, line):
