@@ -15,7 +15,7 @@ use Rattle.un_subnet.specs.RowIndex.{same_subject, subnet_subject, subjects, con
 use Rattle.un_subnet.proofs.Keys.{key_cmp, subject_itself}
 use Rattle.un_subnet.proofs.Numbered.{found_in, found_along, named_in, named_along, lookups_own}
 use Rattle.un_subnet.proofs.Indexed.{numbers_are, same_number}
-use Rattle.un_subnet.proofs.SameStar.{texts}
+use Rattle.un_defs.proofs.SameStar.{texts}
 
 -- its name concerns it
 own_name : (tier : ℕ) (subnet : List ℕ) (row : StoredSubnet) → is_row_of tier subnet row ≡ true → concerns (subnet_subject tier subnet) row ≡ true

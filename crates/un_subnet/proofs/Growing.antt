@@ -9,7 +9,7 @@ use Rattle.un_defs.specs.declared.assoc.Controller.{Controller}
 use Rattle.un_defs.specs.declared.star.Star.{Star}
 use Rattle.un_defs.specs.Features.{Features}
 use Rattle.un_defs.specs.Links.{node_at}
-use Rattle.un_subnet.specs.SameStar.{same_star}
+use Rattle.un_defs.specs.SameStar.{same_star}
 use Rattle.un_subnet.specs.Changes.{Changed, is_changed, controllers_at, gathered_at, with_changed, with_point}
 
 module _ (before after : Point → Star) where

@@ -13,12 +13,9 @@ pub mod MarkedRows
 pub mod NoMemory
 pub mod Numbered
 pub mod Ordered
-pub mod Pairwise
 pub mod Points
 pub mod Runs
-pub mod SameStar
 pub mod Searching
 pub mod Sorting
 pub mod Starts
-pub mod TiesAlike
 pub mod TwoGrounds

@@ -10,11 +10,11 @@ use Rattle.un_defs.proofs.Rising.{Among, among-rising, among_from-rising}
 use Rattle.un_defs.proofs.OrderLaws.{point_ties}
 use Rattle.un_defs.proofs.Members.{among_left, among_right, among_cases, among_from_contains, contains_from_among, among_from_list_any, list_any_from_among, among-filter, among_from-filter, among-flat_map, among_from-flat_map}
 use Rattle.un_defs.proofs.Unique.{point_same, point_itself}
-use Rattle.un_subnet.specs.SameStar.{same_star}
+use Rattle.un_defs.specs.SameStar.{same_star}
 use Rattle.un_subnet.specs.Changes.{controllers_in, has_controller_of, IsMadeDirty, is_changed, controllers_at, has_any, changes_at, is_made_dirty}
 use Rattle.un_subnet.specs.Laws.{MadeDirtyLaw, SameDirtyLaw}
 use Rattle.un_subnet.proofs.Either.{same_truth}
-use Rattle.un_subnet.proofs.SameStar.{stars}
+use Rattle.un_defs.proofs.SameStar.{stars}
 
 either : (a b : Bool) → (a || b) ≡ true → (a ≡ true) ⊎ (b ≡ true)
 either true b e = inl refl

@@ -26,7 +26,7 @@ use Rattle.un_subnet.proofs.Keys.{key_cmp}
 use Rattle.un_subnet.proofs.Indexed.{numbers_are, number_itself, same_number}
 use Rattle.un_subnet.proofs.Numbered.{own_passes}
 use Rattle.un_subnet.proofs.Made.{made_kept}
-use Rattle.un_subnet.proofs.SameStar.{texts}
+use Rattle.un_defs.proofs.SameStar.{texts}
 
 pub dirty_ordered : (ns : List ℕ) (rows : List (ℕ × StoredSubnet)) → AreOrdered (values_of rows) → AreOrdered (values_of (made_in dirty ns rows))
 dirty_ordered ns rows h =

@@ -8,7 +8,7 @@ use Rattle.un_defs.specs.declared.star.Star.{Star}
 use Rattle.un_defs.specs.Orders.{rising}
 use Rattle.un_defs.specs.Features.{is_of_subnet}
 use Rattle.un_defs.specs.Star.{empty_star}
-use Rattle.un_subnet.specs.SameStar.{same_star}
+use Rattle.un_defs.specs.SameStar.{same_star}
 
 -- the controllers that the entries of a star have
 abbrev pub controllers_in : Star → List Controller

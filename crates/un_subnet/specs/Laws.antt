@@ -19,7 +19,6 @@ use Rattle.un_subnet.specs.Starts.{controller_nodes}
 use Rattle.un_subnet.specs.Alone.{least_start, reached_alone}
 use Rattle.un_subnet.specs.Answer.{IsForUpdate, row_of, update_reply}
 use Rattle.un_subnet.specs.Outcome.{has_controllers, update_ask, update_outcome}
-use Rattle.un_subnet.specs.SameStar.{same_star}
 use Rattle.un_subnet.specs.Changes.{IsMadeDirty, changes_at, is_made_dirty}
 
 -- each controller of a subnetwork has a node from which it is walked
@@ -58,10 +57,6 @@ SameOutcomeLaw = (G H : Ground) (F : Features) (rows : List StoredSubnet) (barri
     → AreAlike G H reached → update_outcome G F rows barrier disjoint tier subnet reached ≡ update_outcome H F rows barrier disjoint tier subnet reached
 
 -- ---- the status of stored rows
-
--- the test of stars tells whether they are one
-abbrev pub SameStarLaw : Type 0
-SameStarLaw = (a b : Star) → IsTrue (same_star a b) ↔ (a ≡ b)
 
 -- each point whose star changes is in the list
 abbrev pub HasChanges : (Point → Star) → (Point → Star) → List Point → Type 0

@@ -3,7 +3,6 @@ pub mod Alone
 pub mod Refusals
 pub mod Answer
 pub mod Outcome
-pub mod SameStar
 pub mod Changes
 pub mod Stored
 pub mod RowIndex

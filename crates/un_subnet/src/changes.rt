@@ -4,14 +4,13 @@ ghost use Rattle.std.specs.Prelude.{◌≡◌, ◌++◌, map, not, IfOk, OnOk};
 ghost use Rattle.std.specs.List.Sorted.{IsStrictlySortedBy};
 ghost use Rattle.std.specs.Map.Iter.{deref};
 ghost use Rattle.std.specs.Option.{option_copied};
-ghost use Rattle.un_subnet.specs.SameStar.{same_star};
+ghost use Rattle.un_defs.specs.SameStar.{same_star};
 ghost use Rattle.un_subnet.specs.Changes.{star_or_empty, is_empty_star, controllers_in, with_point, gathered_at, changes_at};
 
-use crate::same_star::is_same_star;
 use crate::sorted::sorted_points;
 use std::alloc::{AllocError, Global};
 use std::marker::Model;
-use un_defs::{Controller, Ground, Star};
+use un_defs::{Controller, Ground, Star, is_same_star};
 use un_geom::Point;
 
 /// The points whose stars a validation has changed, and the controllers that these stars had before or have now.

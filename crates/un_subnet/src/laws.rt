@@ -1,6 +1,6 @@
 //! The laws of updates and of the status of stored rows, each as what a function ensures that does nothing.
 
-ghost use Rattle.un_subnet.specs.Laws.{StartsLaw, AloneLaw, MayUpdateLaw, RowPointsLaw, SameReplyLaw, SameOutcomeLaw, SameStarLaw, MadeDirtyLaw, SameDirtyLaw};
+ghost use Rattle.un_subnet.specs.Laws.{StartsLaw, AloneLaw, MayUpdateLaw, RowPointsLaw, SameReplyLaw, SameOutcomeLaw, MadeDirtyLaw, SameDirtyLaw};
 
 /// Each controller of a subnetwork has a node from which it is walked.
 pub fn starts()
@@ -27,11 +27,6 @@ pub fn row_points()
 pub fn two_grounds()
     ensures reply { SameReplyLaw }
     ensures outcome { SameOutcomeLaw }
-{}
-
-/// The test of stars tells whether they are one.
-pub fn same_star()
-    ensures { SameStarLaw }
 {}
 
 /// Where each star that changes is looked at, the test tells whether a stored row becomes dirty, whatever else is looked at.

@@ -20,7 +20,7 @@
 //! ([`row::row_of`]).
 //!
 //! For the status, [`changes::star_changes`] compares the two stars of each point that was looked at, before and after, part by part
-//! ([`same_star::is_same_star`]). It keeps the points whose stars differ, and the controllers that these stars had before or have now. A row
+//! ([`un_defs::is_same_star`]). It keeps the points whose stars differ, and the controllers that these stars had before or have now. A row
 //! becomes dirty if one of these points is among its own, or if one of these controllers is of its subnetwork. The stored rows have keys by
 //! their points and their subnetworks, under which those rows are looked up ([`stored::StoredRows::marked`]).
 //!
@@ -48,12 +48,10 @@ pub mod laws;
 mod marking;
 mod row;
 mod row_index;
-pub mod same_star;
 mod sorted;
 pub mod stored;
 
 pub use answer::update;
 pub use ask::update_ask;
 pub use changes::{StarChanges, star_changes};
-pub use same_star::is_same_star;
 pub use stored::StoredRows;

@@ -3,7 +3,7 @@ use Rattle.std.specs.List.{dedup}
 use Rattle.std.specs.FinMap.{nat_cmp-IsAntisymmetric}
 use Rattle.std.proofs.lemmas.Cmp.{nat_cmp_total}
 use Rattle.std.proofs.lemmas.List.Filters.{dedup_is}
-use Rattle.un_subnet.proofs.SameStar.{numbers}
+use Rattle.un_defs.proofs.SameStar.{numbers}
 use Rattle.un_subnet.proofs.Sorting.{sorted_once}
 use Rattle.un_subnet.proofs.sorted.sorted_ids.Goals as goal
 

@@ -5,7 +5,7 @@ use Rattle.std.proofs.lemmas.List.Filters.{dedup_is}
 use Rattle.un_geom.specs.Places.{point_cmp, same_point}
 use Rattle.un_defs.proofs.OrderLaws.{point_total, point_ties}
 use Rattle.un_subnet.proofs.Alike.{points_alike, equal_points_alike}
-use Rattle.un_subnet.proofs.SameStar.{points}
+use Rattle.un_defs.proofs.SameStar.{points}
 use Rattle.un_subnet.proofs.Sorting.{sorted_once}
 use Rattle.un_subnet.proofs.sorted.sorted_points.Goals as goal
 

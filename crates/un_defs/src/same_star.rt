@@ -3,9 +3,11 @@
 ghost use Rattle.std.specs.Prelude.{◌≡◌, ◌==◌};
 ghost use Rattle.std.specs.List.{list_all, zip};
 ghost use Rattle.std.specs.Cmp.Lexicographic.{pointwise};
-ghost use Rattle.un_subnet.specs.SameStar.{same_tie, same_value, same_controller, same_controllers, same_head, same_rest, same_spot, same_error, same_star};
+ghost use Rattle.un_defs.specs.SameStar.{same_tie, same_value, same_controller, same_controllers, same_head, same_rest, same_spot, same_error, same_star};
 
-use un_defs::{Controller, Spot, Star, Tie, TopoError};
+use crate::assoc::Controller;
+use crate::link::Tie;
+use crate::star::{Spot, Star, TopoError};
 
 fn same_values(one: &[(u8, i64)], other: &[(u8, i64)]) -> bool
     ensures { result ≡ pointwise same_value one.now other.now }

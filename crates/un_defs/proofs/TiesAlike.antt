@@ -10,7 +10,7 @@ use Rattle.un_defs.specs.declared.link.LinkName.TheVariants.{Seg, Path, Coin, As
 use Rattle.un_defs.specs.declared.link.Tie.{Tie}
 use Rattle.un_defs.specs.declared.port.Node.{Node}
 use Rattle.un_defs.specs.Orders.{same_port, same_node}
-use Rattle.un_subnet.specs.SameStar.{same_flag, same_name, same_tie}
+use Rattle.un_defs.specs.SameStar.{same_flag, same_name, same_tie}
 
 of_three : (a b c : Bool) → (a && (b && c)) ≡ (a && b && c)
 of_three true b c = refl

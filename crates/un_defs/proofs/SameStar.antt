@@ -20,8 +20,8 @@ use Rattle.un_defs.specs.declared.star.Star.{Star}
 use Rattle.un_defs.specs.Orders.{same_port, same_node, error_rank}
 use Rattle.un_defs.proofs.LinkCases.{both_true, true_both}
 use Rattle.un_defs.proofs.Unique.{int_same, int_itself, port_same, port_itself, point_same, point_itself, node_same, node_itself}
-use Rattle.un_subnet.specs.SameStar.{same_flag, same_name, same_tie, same_value, same_controller, same_controllers, same_head, same_rest, same_spot, same_error, same_star}
-use Rattle.un_subnet.specs.Laws.{SameStarLaw}
+use Rattle.un_defs.specs.SameStar.{same_flag, same_name, same_tie, same_value, same_controller, same_controllers, same_head, same_rest, same_spot, same_error, same_star}
+use Rattle.un_defs.specs.Laws.{SameStarLaw}
 
 -- a test of two values that tells whether they are one
 abbrev pub DecidesSame : {A : Type 0} → (A → A → Bool) → Type 0

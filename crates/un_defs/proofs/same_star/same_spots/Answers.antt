@@ -1,7 +1,7 @@
 use Rattle.std.proofs.Common.{◌∙◌, sym}
-use Rattle.un_subnet.specs.SameStar.{same_spot}
-use Rattle.un_subnet.proofs.Pairwise.{pairs}
-use Rattle.un_subnet.proofs.same_star.same_spots.Goals as goal
+use Rattle.un_defs.specs.SameStar.{same_spot}
+use Rattle.un_defs.proofs.Pairwise.{pairs}
+use Rattle.un_defs.proofs.same_star.same_spots.Goals as goal
 
 pub returns-then-one-other : goal.returns-then-one-other
 returns-then-one-other c = c.same_pairs.ensures ∙ sym (pairs same_spot c.args.one.now c.args.other.now c.if-one-other.true)
