@@ -3,3 +3,4 @@
 
 pub mod desk;
 pub mod past;
+pub mod span;

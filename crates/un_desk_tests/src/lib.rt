@@ -12,4 +12,6 @@ mod memory;
 #[cfg(test)]
 mod past;
 #[cfg(test)]
+mod span;
+#[cfg(test)]
 mod threads;
