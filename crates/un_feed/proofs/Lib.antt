@@ -1,0 +1,5 @@
+pub mod SameMaps
+pub mod Applying
+pub mod Seeking
+pub mod Paging
+pub mod Following
