@@ -8,7 +8,7 @@ use Rattle.un_ask.specs.Words.{edit_text}
 use Rattle.un_ask.specs.declared.word.EditWord.{EditWord}
 use Rattle.un_ask.specs.declared.stored.StoredSubnet.{StoredSubnet}
 use Rattle.un_ask.specs.declared.reply.Reply.TheVariants as reply
-use Rattle.un_replies.specs.Values.{count, counts}
+use Rattle.un_values.specs.Values.{count, counts}
 use Rattle.un_replies.specs.Pieces.{following, opening}
 use Rattle.un_replies.specs.Replies.{past_around, PastAroundLaw, reply_value, stored_members, stored_status}
 use Rattle.un_replies.proofs.RefusalTexts.{piece}

@@ -1,5 +1,5 @@
 -- The values of replies have that form.
-use Rattle.std.proofs.Common.{ℕ, ℤ, List, [], ◌∷◌, ◌++◌, Option, Some, None, Bool, true, false, codes, arith}
+use Rattle.std.proofs.Common.{ℕ, ℤ, [], ◌∷◌, ◌++◌, Option, Some, None, Bool, true, false, codes, arith}
 use Rattle.un_geom.specs.declared.point.Point.{Point}
 use Rattle.un_geom.specs.Rectangle.{Rectangle}
 use Rattle.un_defs.specs.declared.port.Port.{Port}
@@ -17,12 +17,13 @@ use Rattle.un_ask.specs.declared.reply.ResultReply.{ResultReply}
 use Rattle.un_ask.specs.declared.reply.Reply.{Reply}
 use Rattle.un_ask.specs.declared.reply.Reply.TheVariants as reply
 use Rattle.serde_json.specs.Data.{boolean, string}
-use Rattle.un_replies.specs.Values.{count, counts, whole, list, object_of}
+use Rattle.un_values.specs.Values.{count, counts, whole, list, object_of, attribute}
 use Rattle.std.proofs.Common.{map}
-use Rattle.un_replies.specs.Refusals.{RefusalFields, fields_of, edit_member, version_member, has_version, fields_value, refusal_value}
+use Rattle.un_replies.specs.Refusals.{RefusalFields, fields_of, edit_member, version_member, has_version, fields_value, placed, refusal_value}
 use Rattle.un_ask.specs.Words.{edit_text, trace_text}
-use Rattle.un_replies.specs.Replies.{error_text, flow_text, stored_members, stored_status, status_text, path_text, point, port, area, placed_error, part, segment, controller, total, cost, label, piece, edge, attribute, feature_value, result_value, reply_value, past_value}
-use Rattle.un_replies.proofs.Formed.{IsFormedTo, HasFormed, HasFormed-append, of_count, of_whole, of_truth, of_text, of_tuple, of_list, of_counts, of_object}
+use Rattle.un_replies.specs.Replies.{error_text, flow_text, stored_members, stored_status, status_text, path_text, point, port, area, placed_error, part, segment, controller, total, cost, label, piece, edge, feature_value, result_value, reply_value, past_value}
+use Rattle.un_values.specs.Formed.{IsFormedTo}
+use Rattle.un_values.proofs.Formed.{HasFormed, HasFormed-append, of_attributes, of_count, of_whole, of_truth, of_text, of_tuple, of_list, of_counts, of_object}
 
 -- ---- parts
 
@@ -66,10 +67,6 @@ of_piece p = of_tuple 1 (count p.name.feature ∷ count p.name.number ∷ count 
 of_edge : (e : Edge) → IsFormedTo 2 (edge e)
 of_edge e = of_tuple 1 (count e.from.feature ∷ count e.from.number ∷ count e.to.feature ∷ count e.to.number ∷ []) (of_count 1 e.from.feature, (of_count 1 e.from.number, (of_count 1 e.to.feature, (of_count 1 e.to.number, tt))))
 
-of_attributes : (pairs : List (List ℕ × ℤ)) → HasFormed 2 (map attribute pairs)
-of_attributes [] = tt
-of_attributes ((name, z) ∷ pairs) = (of_whole 2 z, of_attributes pairs)
-
 -- ---- refusals
 
 of_edit : (edit : Option ℕ) → HasFormed 3 (edit_member edit)
@@ -83,6 +80,10 @@ of_version false version = tt
 of_fields : (t : RefusalFields) (edit : Option ℕ) (version : ℕ) → HasFormed 3 t.carried → IsFormedTo 4 (fields_value t edit version)
 of_fields t edit version h =
     of_object 3 ((codes "error", count t.error) ∷ (codes "name", string t.name) ∷ t.carried ++ (edit_member edit ++ version_member (has_version t.error) version)) (of_count 3 t.error, (of_text 3 t.name, HasFormed-append 3 t.carried _ h (HasFormed-append 3 (edit_member edit) _ (of_edit edit) (of_version (has_version t.error) version))))
+
+of_place : (place : Option Point) → IsFormedTo 3 (placed place)
+of_place None = record { formed = tt; shallow = omega arith }
+of_place (Some p) = of_tuple 2 (whole p.x ∷ whole p.y ∷ whole p.z ∷ []) (of_whole 2 p.x, (of_whole 2 p.y, (of_whole 2 p.z, tt)))
 
 pub of_refusal : (r : Refusal) (edit : Option ℕ) (version : ℕ) → IsFormedTo 4 (refusal_value r edit version)
 of_refusal refusal.NotJson edit version = of_fields (fields_of refusal.NotJson) edit version tt
@@ -120,6 +121,8 @@ of_refusal (refusal.BadRuleTerminal place) edit version = of_fields (fields_of (
 of_refusal (refusal.RuleExists place) edit version = of_fields (fields_of (refusal.RuleExists place)) edit version (of_count 3 _, tt)
 of_refusal (refusal.NotYet at latest) edit version = of_fields (fields_of (refusal.NotYet at latest)) edit version (of_count 3 _, (of_count 3 _, tt))
 of_refusal refusal.ServeOnly edit version = of_fields (fields_of refusal.ServeOnly) edit version tt
+of_refusal (refusal.WrongPage after at) edit version = of_fields (fields_of (refusal.WrongPage after at)) edit version (of_place after, (of_count 3 _, tt))
+of_refusal (refusal.BadSpan since upto) edit version = of_fields (fields_of (refusal.BadSpan since upto)) edit version (of_count 3 _, (of_count 3 _, tt))
 of_refusal refusal.Memory edit version = record { formed = (tt, (tt, tt)); shallow = omega arith }
 
 -- ---- replies
@@ -127,7 +130,7 @@ of_refusal refusal.Memory edit version = record { formed = (tt, (tt, tt)); shall
 of_feature : (f : FeatureReply) (version : ℕ) → IsFormedTo 4 (feature_value f version)
 of_feature f version = of_object 3
     ((codes "attrs", object_of (map attribute f.attrs)) ∷ (codes "base", count f.base) ∷ (codes "ends", counts f.ends) ∷ (codes "flow", string (flow_text f.flow)) ∷ (codes "id", count f.id) ∷ (codes "kind", string f.kind) ∷ (codes "note", string f.note) ∷ (codes "ok", string (codes "feature")) ∷ (codes "path", string (path_text f.path)) ∷ (codes "points", list point f.points) ∷ (codes "version", count version) ∷ [])
-    (of_object 2 (map attribute f.attrs) (of_attributes f.attrs), (of_count 3 _, (of_counts 2 _, (of_text 3 _, (of_count 3 _, (of_text 3 _, (of_text 3 _, (of_text 3 _, (of_text 3 _, (of_list 2 point of_point f.points, (of_count 3 _, tt)))))))))))
+    (of_object 2 (map attribute f.attrs) (of_attributes 2 f.attrs), (of_count 3 _, (of_counts 2 _, (of_text 3 _, (of_count 3 _, (of_text 3 _, (of_text 3 _, (of_text 3 _, (of_text 3 _, (of_list 2 point of_point f.points, (of_count 3 _, tt)))))))))))
 
 of_result : (r : ResultReply) (version : ℕ) → IsFormedTo 4 (result_value r version)
 of_result r version = of_object 3

@@ -89,6 +89,14 @@ place_text_plain place.Labels = refl
 place_text_plain place.Keep = refl
 place_text_plain place.At = refl
 place_text_plain place.Query = refl
+place_text_plain place.Since = refl
+place_text_plain place.Upto = refl
+place_text_plain place.After = refl
+place_text_plain place.Most = refl
+place_text_plain place.Changes = refl
+place_text_plain place.More = refl
+place_text_plain place.Ok = refl
+place_text_plain place.Version = refl
 
 pub place_text_short : (x : Place) → length (place_text x) ≤ 12
 place_text_short place.Whole = lit≤ tt
@@ -140,6 +148,14 @@ place_text_short place.Labels = lit≤ tt
 place_text_short place.Keep = lit≤ tt
 place_text_short place.At = lit≤ tt
 place_text_short place.Query = lit≤ tt
+place_text_short place.Since = lit≤ tt
+place_text_short place.Upto = lit≤ tt
+place_text_short place.After = lit≤ tt
+place_text_short place.Most = lit≤ tt
+place_text_short place.Changes = lit≤ tt
+place_text_short place.More = lit≤ tt
+place_text_short place.Ok = lit≤ tt
+place_text_short place.Version = lit≤ tt
 
 -- so is what there is a greatest number of
 pub limit_text_plain : (x : Limit) → escape (limit_text x) ≡ limit_text x

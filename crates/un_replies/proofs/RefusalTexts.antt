@@ -7,9 +7,9 @@ use Rattle.serde_json.specs.Written.{compact_text, members_text}
 use Rattle.serde_json.proofs.OnLiterals.{serde_json_on_literals}
 use Rattle.un_defs.specs.declared.refusal.Refusal.{Refusal}
 use Rattle.un_defs.specs.declared.refusal.Refusal.TheVariants as refusal
-use Rattle.un_replies.specs.Values.{count, in_order}
+use Rattle.un_values.specs.Values.{count, in_order, members_of}
 use Rattle.un_replies.specs.Refusals.{fields_of, fields_value, refusal_value, has_version, edit_member, version_member}
-use Rattle.un_replies.specs.Pieces.{members_of, leading, following, early, middle, late, last}
+use Rattle.un_replies.specs.Pieces.{leading, following, early, middle, late, last}
 
 -- the members of a refusal in their order
 abbrev row : Refusal → Option ℕ → ℕ → List (List ℕ × Data)
@@ -90,6 +90,10 @@ sorted (refusal.NotYet at latest) None version = refl
 sorted (refusal.NotYet at latest) (Some edit) version = refl
 sorted refusal.ServeOnly None version = refl
 sorted refusal.ServeOnly (Some edit) version = refl
+sorted (refusal.WrongPage after at) None version = refl
+sorted (refusal.WrongPage after at) (Some edit) version = refl
+sorted (refusal.BadSpan since upto) None version = refl
+sorted (refusal.BadSpan since upto) (Some edit) version = refl
 sorted refusal.Memory None version = refl
 sorted refusal.Memory (Some edit) version = refl
 
@@ -206,6 +210,8 @@ fields_other (refusal.BadRuleTerminal place) edit version other = refl
 fields_other (refusal.RuleExists place) edit version other = refl
 fields_other (refusal.NotYet at latest) edit version other = refl
 fields_other refusal.ServeOnly edit version other = refl
+fields_other (refusal.WrongPage after at) edit version other = refl
+fields_other (refusal.BadSpan since upto) edit version other = refl
 fields_other refusal.Memory edit version other = absurd (other refl)
 
 -- one piece, and then the others
@@ -263,6 +269,8 @@ name_plain (refusal.BadRuleTerminal place) = refl
 name_plain (refusal.RuleExists place) = refl
 name_plain (refusal.NotYet at latest) = refl
 name_plain refusal.ServeOnly = refl
+name_plain (refusal.WrongPage after at) = refl
+name_plain (refusal.BadSpan since upto) = refl
 name_plain refusal.Memory = refl
 
 pub name_short : (r : Refusal) → length (fields_of r).name ≤ 17
@@ -301,4 +309,6 @@ name_short (refusal.BadRuleTerminal place) = lit≤ tt
 name_short (refusal.RuleExists place) = lit≤ tt
 name_short (refusal.NotYet at latest) = lit≤ tt
 name_short refusal.ServeOnly = lit≤ tt
+name_short (refusal.WrongPage after at) = lit≤ tt
+name_short (refusal.BadSpan since upto) = lit≤ tt
 name_short refusal.Memory = lit≤ tt

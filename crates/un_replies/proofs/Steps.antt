@@ -1,10 +1,10 @@
 -- Pieces that are put behind one another.
-use Rattle.std.proofs.Common.{◌≡◌, ℕ, Bool, true, false, List, [], ◌∷◌, ◌++◌, codes, decimal, ap, sym, append_assoc, append-nil, ◌∙◌}
+use Rattle.std.proofs.Common.{◌≡◌, ℕ, ℤ, Bool, true, false, List, [], ◌∷◌, ◌++◌, codes, decimal, ap, sym, append_assoc, append-nil, ◌∙◌}
 use Rattle.serde_json.specs.Written.{compact_text, items_text, comma_if}
 use Rattle.json.specs.Print.{quoted}
 use Rattle.serde_json.specs.Data.{Data}
 use Rattle.un_replies.specs.Pieces.{leading, following, opening}
-use Rattle.un_replies.specs.Values.{count, counts, items_of}
+use Rattle.un_values.specs.Values.{count, counts, items_of, whole, tuple}
 
 -- a text in its quotes
 pub put_quoted : (start text a b c : List ℕ) → a ≡ start ++ codes "\"" → b ≡ a ++ text → c ≡ b ++ codes "\"" → c ≡ start ++ 34 ∷ (text ++ 34 ∷ [])
@@ -56,3 +56,18 @@ open_one start a b c d k v first second third fourth =
     let value = compact_text v in
     fourth ∙ ap (λ t. t ++ value) (third ∙ ap (λ t. t ++ codes ":") (second ∙ ap (λ t. t ++ name) first))
     ∙ append_assoc ((start ++ codes "{") ++ name) (codes ":") value ∙ append_assoc (start ++ codes "{") name (codes ":" ++ value) ∙ append_assoc start (codes "{") (name ++ (codes ":" ++ value))
+
+-- three values in brackets
+pub put_triple : (start a b c d e f g : List ℕ) (x y z : ℤ) → a ≡ start ++ codes "[" → b ≡ a ++ compact_text (whole x) → c ≡ b ++ codes "," → d ≡ c ++ compact_text (whole y)
+    → e ≡ d ++ codes "," → f ≡ e ++ compact_text (whole z) → g ≡ f ++ codes "]" → g ≡ start ++ compact_text (tuple (whole x ∷ whole y ∷ whole z ∷ []))
+put_triple start a b c d e f g x y z one two three four five six seven =
+    let s = compact_text (whole x) in
+    let t = compact_text (whole y) in
+    let u = compact_text (whole z) in
+    seven ∙ ap (λ w. w ++ codes "]") (six ∙ ap (λ w. w ++ u) (five ∙ ap (λ w. w ++ codes ",") (four ∙ ap (λ w. w ++ t) (three ∙ ap (λ w. w ++ codes ",") (two ∙ ap (λ w. w ++ s) one)))))
+    ∙ append_assoc (((((start ++ codes "[") ++ s) ++ codes ",") ++ t) ++ codes ",") u (codes "]")
+    ∙ append_assoc ((((start ++ codes "[") ++ s) ++ codes ",") ++ t) (codes ",") (u ++ codes "]")
+    ∙ append_assoc (((start ++ codes "[") ++ s) ++ codes ",") t (codes "," ++ (u ++ codes "]"))
+    ∙ append_assoc ((start ++ codes "[") ++ s) (codes ",") (t ++ (codes "," ++ (u ++ codes "]")))
+    ∙ append_assoc (start ++ codes "[") s (codes "," ++ (t ++ (codes "," ++ (u ++ codes "]"))))
+    ∙ append_assoc start (codes "[") (s ++ (codes "," ++ (t ++ (codes "," ++ (u ++ codes "]")))))

@@ -1,10 +1,8 @@
 -- Each reply's texts are UTF-8 where its names and its note are.
-use Rattle.std.proofs.Common.{ℕ, suc, ℤ, List, [], ◌∷◌, ◌++◌, map, codes, Option, Some, None, Bool, true, false, IfSome, All, Ordering, Less, Equal, Greater, nat_cmp, IsUtf8, refl, arith}
+use Rattle.std.proofs.Common.{ℕ, ℤ, List, ◌∷◌, ◌++◌, map, codes, Option, Some, None, Bool, true, false, IfSome, All, IsUtf8, refl}
 use Rattle.std.proofs.lemmas.Str.{IsUtf8-nil}
-use Rattle.std.specs.Cmp.Lexicographic.{slice_cmp}
-use Rattle.std.specs.Ordering.{match_ordering}
-use Rattle.std.specs.Prelude.{⊤}
-use Rattle.serde_json.specs.Data.{Data, string, Members, no_members, member, put}
+use Rattle.serde_json.specs.Data.{string}
+use Rattle.un_geom.specs.declared.point.Point.{Point}
 use Rattle.un_schema.specs.declared.place.Place.{Place}
 use Rattle.un_schema.specs.declared.place.Place.TheVariants as place
 use Rattle.un_schema.specs.Places.{place_text}
@@ -29,11 +27,12 @@ use Rattle.un_ask.specs.declared.reply.FeatureReply.{FeatureReply}
 use Rattle.un_ask.specs.declared.reply.ResultReply.{ResultReply}
 use Rattle.un_ask.specs.declared.reply.Reply.{Reply}
 use Rattle.un_ask.specs.declared.reply.Reply.TheVariants as reply
-use Rattle.un_replies.specs.Values.{count, counts, list, in_order, object_of}
-use Rattle.un_replies.specs.Refusals.{RefusalFields, fields_of, limit_text, edit_member, version_member, has_version, fields_value, refusal_value}
-use Rattle.un_replies.specs.Replies.{error_text, flow_text, stored_status, status_text, path_text, point, port, area, placed_error, part, segment, controller, total, cost, label, piece, edge, attribute, feature_value, result_value, reply_value, past_value}
+use Rattle.un_values.specs.Values.{count, list, attribute}
+use Rattle.un_values.specs.ReadBack.{EachText}
+use Rattle.un_values.proofs.Utf8.{ascii, of_list, of_each, of_counts, of_object, AreUtf8, AreUtf8-append, of_attributes, compact_text_utf8}
+use Rattle.un_replies.specs.Refusals.{RefusalFields, fields_of, limit_text, edit_member, version_member, has_version, fields_value, placed, refusal_value}
+use Rattle.un_replies.specs.Replies.{error_text, flow_text, stored_status, status_text, path_text, point, port, area, placed_error, part, segment, controller, total, cost, label, piece, edge, feature_value, result_value, reply_value, past_value}
 use Rattle.un_replies.specs.ReadBack.{HasUtf8Name, FeatureHasUtf8, HasUtf8Texts, Utf8Law, PastUtf8Law}
-use Rattle.un_replies.proofs.Utf8.{EachText, EachMemberText, ascii, compact_text_utf8}
 
 -- ---- words
 
@@ -140,6 +139,14 @@ place_utf8 place.Labels = ascii refl
 place_utf8 place.Keep = ascii refl
 place_utf8 place.At = ascii refl
 place_utf8 place.Query = ascii refl
+place_utf8 place.Since = ascii refl
+place_utf8 place.Upto = ascii refl
+place_utf8 place.After = ascii refl
+place_utf8 place.Most = ascii refl
+place_utf8 place.Changes = ascii refl
+place_utf8 place.More = ascii refl
+place_utf8 place.Ok = ascii refl
+place_utf8 place.Version = ascii refl
 
 stored_status_utf8 : (row : Option StoredSubnet) → IsUtf8 (stored_status row)
 stored_status_utf8 None = ascii refl
@@ -151,13 +158,6 @@ path_utf8 (Some name) h = h
 
 -- ---- parts
 
-of_list : {A : Type 0} (f : A → Data) → ((x : A) → EachText IsUtf8 (f x)) → (xs : List A) → EachText IsUtf8 (list f xs)
-of_list f h [] = tt
-of_list f h (x ∷ xs) = (h x, of_list f h xs)
-
-of_counts : (xs : List ℕ) → EachText IsUtf8 (counts xs)
-of_counts = of_list count (λ x. tt)
-
 of_total : (t : Option ℤ) → EachText IsUtf8 (total t)
 of_total None = tt
 of_total (Some z) = tt
@@ -167,36 +167,7 @@ of_cost None = tt
 of_cost (Some n) = tt
 
 of_controllers : (cs : List Controller) → All (λ c. IsUtf8 c.subnet) cs → EachText IsUtf8 (list controller cs)
-of_controllers [] h = tt
-of_controllers (c ∷ cs) h = ((tt, (tt, (h 0 c (omega arith), tt))), of_controllers cs (λ k d l. h (suc k) d (omega arith)))
-
--- ---- members put in order
-
-put_utf8_at : (o : Ordering) (k l : List ℕ) (d e : Data) (ms : Members) → IsUtf8 k → EachText IsUtf8 d → EachMemberText IsUtf8 (member l e ms) → EachMemberText IsUtf8 (put k d ms)
-    → EachMemberText IsUtf8 (match_ordering o (member k d (member l e ms)) (member l d ms) (member l e (put k d ms)))
-put_utf8_at Less k l d e ms key value h later = (key, (value, h))
-put_utf8_at Equal k l d e ms key value h later = (h.0, (value, h.1.1))
-put_utf8_at Greater k l d e ms key value h later = (h.0, (h.1.0, later))
-
-put_utf8 : (k : List ℕ) (d : Data) (ms : Members) → IsUtf8 k → EachText IsUtf8 d → EachMemberText IsUtf8 ms → EachMemberText IsUtf8 (put k d ms)
-put_utf8 k d no_members key value h = (key, (value, tt))
-put_utf8 k d (member l e ms) key value h = put_utf8_at (slice_cmp nat_cmp k l) k l d e ms key value h (put_utf8 k d ms key value h.1.1)
-
-abbrev AreUtf8 : List (List ℕ × Data) → Type 0
-AreUtf8 [] = ⊤
-AreUtf8 (m ∷ ms) = (IsUtf8 m.0 × EachText IsUtf8 m.1) × AreUtf8 ms
-
-of_object : (ms : List (List ℕ × Data)) → AreUtf8 ms → EachText IsUtf8 (object_of ms)
-of_object [] h = tt
-of_object (m ∷ ms) h = put_utf8 m.0 m.1 (in_order ms) h.0.0 h.0.1 (of_object ms h.1)
-
-AreUtf8-append : (ms ns : List (List ℕ × Data)) → AreUtf8 ms → AreUtf8 ns → AreUtf8 (ms ++ ns)
-AreUtf8-append [] ns h k = k
-AreUtf8-append (m ∷ ms) ns h k = (h.0, AreUtf8-append ms ns h.1 k)
-
-of_attributes : (pairs : List (List ℕ × ℤ)) → All (λ pair. IsUtf8 pair.0) pairs → AreUtf8 (map attribute pairs)
-of_attributes [] h = tt
-of_attributes (pair ∷ pairs) h = ((h 0 pair (omega arith), tt), of_attributes pairs (λ k d l. h (suc k) d (omega arith)))
+of_controllers cs h = of_each (λ c. IsUtf8 c.subnet) controller (λ c text. (tt, (tt, (text, tt)))) cs h
 
 -- ---- refusals
 
@@ -212,6 +183,10 @@ of_fields : (t : RefusalFields) (edit : Option ℕ) (version : ℕ) → IsUtf8 t
 of_fields t edit version name h =
     of_object ((codes "error", count t.error) ∷ (codes "name", string t.name) ∷ t.carried ++ (edit_member edit ++ version_member (has_version t.error) version))
     ((ascii refl, tt), ((ascii refl, name), AreUtf8-append t.carried _ h (AreUtf8-append (edit_member edit) _ (of_edit edit) (of_version (has_version t.error) version))))
+
+of_place : (place : Option Point) → EachText IsUtf8 (placed place)
+of_place None = tt
+of_place (Some p) = (tt, (tt, (tt, tt)))
 
 of_refusal : (r : Refusal) (edit : Option ℕ) (version : ℕ) → HasUtf8Name r → EachText IsUtf8 (refusal_value r edit version)
 of_refusal refusal.NotJson edit version h = of_fields (fields_of refusal.NotJson) edit version (ascii refl) tt
@@ -249,6 +224,8 @@ of_refusal (refusal.BadRuleTerminal place) edit version h = of_fields (fields_of
 of_refusal (refusal.RuleExists place) edit version h = of_fields (fields_of (refusal.RuleExists place)) edit version (ascii refl) ((ascii refl, tt), tt)
 of_refusal (refusal.NotYet at latest) edit version h = of_fields (fields_of (refusal.NotYet at latest)) edit version (ascii refl) ((ascii refl, tt), ((ascii refl, tt), tt))
 of_refusal refusal.ServeOnly edit version h = of_fields (fields_of refusal.ServeOnly) edit version (ascii refl) tt
+of_refusal (refusal.WrongPage after at) edit version h = of_fields (fields_of (refusal.WrongPage after at)) edit version (ascii refl) ((ascii refl, of_place after), ((ascii refl, tt), tt))
+of_refusal (refusal.BadSpan since upto) edit version h = of_fields (fields_of (refusal.BadSpan since upto)) edit version (ascii refl) ((ascii refl, tt), ((ascii refl, tt), tt))
 of_refusal refusal.Memory edit version h = (ascii refl, (tt, tt))
 
 -- ---- replies

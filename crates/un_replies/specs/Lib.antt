@@ -1,4 +1,3 @@
-pub mod Values
 pub mod Refusals
 pub mod Replies
 pub mod ReadBack

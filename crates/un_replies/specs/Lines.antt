@@ -97,7 +97,7 @@ comma_line true = line_by_test (44 ∷ []) refl
 comma_line false = none
 
 mutual
-  text_line : (d : Data) → NoLineEnd (compact_text d)
+  pub text_line : (d : Data) → NoLineEnd (compact_text d)
   text_line null = line_by_test (codes "null") refl
   text_line (boolean true) = line_by_test (codes "true") refl
   text_line (boolean false) = line_by_test (codes "false") refl
@@ -219,6 +219,10 @@ refusal_other (refusal.NotYet at latest) None version other = other_third _ _ re
 refusal_other (refusal.NotYet at latest) (Some edit) version other = other_third _ _ refl (lit< tt)
 refusal_other refusal.ServeOnly None version other = other_third _ _ refl (lit< tt)
 refusal_other refusal.ServeOnly (Some edit) version other = other_third _ _ refl (lit< tt)
+refusal_other (refusal.WrongPage after at) None version other = other_third _ _ refl (lit< tt)
+refusal_other (refusal.WrongPage after at) (Some edit) version other = other_third _ _ refl (lit< tt)
+refusal_other (refusal.BadSpan since upto) None version other = other_third _ _ refl (lit< tt)
+refusal_other (refusal.BadSpan since upto) (Some edit) version other = other_third _ _ refl (lit< tt)
 refusal_other refusal.Memory edit version other = absurd (other refl)
 
 pub reply_other : (r : Reply) → IsNoMemory r → print r ≢ memory_text

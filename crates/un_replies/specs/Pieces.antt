@@ -1,18 +1,13 @@
 -- The parts of a refusal's text, for private clauses.
 use Rattle.std.specs.Prelude.{ℕ, List, [], ◌∷◌, ◌++◌, codes}
 use Rattle.json.specs.Print.{quoted}
-use Rattle.serde_json.specs.Data.{Data, string, Members, no_members, member}
+use Rattle.serde_json.specs.Data.{Data, string}
 use Rattle.serde_json.specs.Written.{compact_text}
 use Rattle.un_schema.specs.Places.{place_text}
 use Rattle.un_defs.specs.declared.refusal.Refusal.{Refusal}
 use Rattle.un_defs.specs.declared.refusal.Refusal.TheVariants as refusal
-use Rattle.un_replies.specs.Values.{count}
-use Rattle.un_replies.specs.Refusals.{limit_text}
-
--- members as they come
-abbrev pub members_of : List (List ℕ × Data) → Members
-members_of [] = no_members
-members_of (m ∷ ms) = member m.0 m.1 (members_of ms)
+use Rattle.un_values.specs.Values.{count}
+use Rattle.un_replies.specs.Refusals.{limit_text, placed}
 
 -- members with a comma behind each, and with a comma before each
 abbrev pub leading : List (List ℕ × Data) → List ℕ
@@ -30,6 +25,7 @@ early (refusal.BadAttribute attribute) = (codes "attribute", string attribute) �
 early (refusal.AlreadyContained by) = (codes "by", count by) ∷ []
 early (refusal.DirtyGround area feature port) = (codes "area", count area) ∷ []
 early (refusal.NotYet at latest) = (codes "at", count at) ∷ []
+early (refusal.WrongPage after at) = (codes "after", placed after) ∷ (codes "at", count at) ∷ []
 early other = []
 
 -- what is carried between `error` and `name`
@@ -63,6 +59,7 @@ late (refusal.DirtyGround area feature port) = (codes "port", count port) ∷ []
 late (refusal.NotIsolable feature terminal) = (codes "terminal", count terminal) ∷ []
 late (refusal.BadRuleTerminal place) = (codes "place", count place) ∷ []
 late (refusal.RuleExists place) = (codes "place", count place) ∷ []
+late (refusal.BadSpan since upto) = (codes "since", count since) ∷ (codes "upto", count upto) ∷ []
 late other = []
 
 -- what is carried behind `version`

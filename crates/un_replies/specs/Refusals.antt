@@ -1,12 +1,13 @@
 -- The refusals as values: the table of their numbers and names, and of what each carries.
 use Rattle.std.specs.Prelude.{ℕ, Bool, not, ◌||◌, ◌==◌, if◌then◌else◌, List, [], ◌∷◌, ◌++◌, codes, Option, Some, None, true}
-use Rattle.serde_json.specs.Data.{Data, boolean, string, object, member, no_members}
+use Rattle.serde_json.specs.Data.{Data, null, boolean, string, object, member, no_members}
+use Rattle.un_geom.specs.declared.point.Point.{Point}
 use Rattle.un_schema.specs.Places.{place_text}
 use Rattle.un_defs.specs.declared.refusal.Refusal.{Refusal}
 use Rattle.un_defs.specs.declared.refusal.Refusal.TheVariants as refusal
 use Rattle.un_defs.specs.declared.refusal.Limit.{Limit}
 use Rattle.un_defs.specs.declared.refusal.Limit.TheVariants as limit
-use Rattle.un_replies.specs.Values.{count, object_of}
+use Rattle.un_values.specs.Values.{count, whole, tuple, object_of}
 
 -- what there is a greatest number of
 abbrev pub limit_text : Limit → List ℕ
@@ -18,6 +19,11 @@ limit_text limit.Contents = codes "contents"
 limit_text limit.Controllers = codes "controllers"
 limit_text limit.Subnetworks = codes "subnetworks"
 limit_text limit.Rules = codes "rules"
+
+-- a point, or null where there is none
+abbrev pub placed : Option Point → Data
+placed None = null
+placed (Some p) = tuple (whole p.x ∷ whole p.y ∷ whole p.z ∷ [])
 
 -- a refusal's number, its name and what it carries
 pub record RefusalFields : Type 0 where
@@ -64,12 +70,14 @@ fields_of (refusal.BadRuleTerminal place) = refusal_fields 45 (codes "BadRuleTer
 fields_of (refusal.RuleExists place) = refusal_fields 46 (codes "RuleExists") ((codes "place", count place) ∷ [])
 fields_of (refusal.NotYet at latest) = refusal_fields 47 (codes "NotYet") ((codes "at", count at) ∷ (codes "latest", count latest) ∷ [])
 fields_of refusal.ServeOnly = refusal_fields 48 (codes "ServeOnly") []
+fields_of (refusal.WrongPage after at) = refusal_fields 49 (codes "WrongPage") ((codes "after", placed after) ∷ (codes "at", count at) ∷ [])
+fields_of (refusal.BadSpan since upto) = refusal_fields 50 (codes "BadSpan") ((codes "since", count since) ∷ (codes "upto", count upto) ∷ [])
 fields_of refusal.Memory = refusal_fields 0 [] []
 
--- The version is not told with a line that is no request or too long, with one that is no schema, with a query that
--- wants a later version, nor with one at a version that is not there yet or that only a server answers at.
+-- The version stands in each refusal but of a line that is no request or too long, of one that is no schema, of a query that wants a later
+-- version, one that is not there yet or one that only a server answers, and of a page that a follower does not take.
 abbrev pub has_version : ℕ → Bool
-has_version error = not (error == 1 || error == 2 || error == 3 || error == 6 || error == 31 || error == 47 || error == 48)
+has_version error = not (error == 1 || error == 2 || error == 3 || error == 6 || error == 31 || error == 47 || error == 48 || error == 49)
 
 -- the place of the refused edit in a batch
 abbrev pub edit_member : Option ℕ → List (List ℕ × Data)

@@ -24,7 +24,7 @@ use Rattle.un_ask.specs.declared.reply.FeatureReply.{FeatureReply}
 use Rattle.un_ask.specs.declared.reply.ResultReply.{ResultReply}
 use Rattle.un_ask.specs.declared.reply.Reply.{Reply}
 use Rattle.un_ask.specs.declared.reply.Reply.TheVariants as reply
-use Rattle.un_replies.specs.Values.{count, counts, whole, list, tuple, object_of}
+use Rattle.un_values.specs.Values.{count, counts, whole, list, tuple, object_of, attribute}
 use Rattle.un_replies.specs.Refusals.{refusal_value}
 
 -- ---- words
@@ -99,9 +99,6 @@ piece p = tuple (count p.name.feature ∷ count p.name.number ∷ count p.nodes 
 -- an edge of a diagram: the kept port that it comes from, and where it leads to
 abbrev pub edge : Edge → Data
 edge e = tuple (count e.from.feature ∷ count e.from.number ∷ count e.to.feature ∷ count e.to.number ∷ [])
-
-abbrev pub attribute : List ℕ × ℤ → List ℕ × Data
-attribute (name, value) = (name, whole value)
 
 -- ---- replies
 

@@ -4,16 +4,16 @@ ghost use Rattle.json.specs.Token.{end_object};
 ghost use Rattle.json.specs.Tree.{json_tokens, members_tokens};
 ghost use Rattle.serde_json.specs.Written.{outline, members_outline};
 ghost use Rattle.un_defs.specs.NamedAttributes.{IsNamedAttrs};
-ghost use Rattle.un_replies.specs.Values.{object_of};
-ghost use Rattle.un_replies.specs.Replies.{attribute, feature_value, flow_text, path_text};
-ghost use Rattle.un_replies.specs.Pieces.{members_of};
+ghost use Rattle.un_values.specs.Values.{attribute, members_of, object_of};
+ghost use Rattle.un_replies.specs.Replies.{feature_value, flow_text, path_text};
 
-use crate::to_json::{ToJson, count_member, list_member, string_member};
+use crate::to_json::{ToJson, list_member};
 use json::Writer;
 use std::alloc::AllocError;
 use un_ask::FeatureReply;
 use un_defs::Flow;
 use un_schema::Name;
+use un_values::member::{count_member, string_member};
 
 // Writes the members of the attributes.
 #[tactic(auto, using(crate::proofs::Shows::attribute_one, crate::proofs::Shows::attribute_all))]

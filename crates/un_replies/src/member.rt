@@ -3,10 +3,12 @@ ghost use Rattle.std.specs.Prelude.{◌≡◌, ◌+◌, ◌*◌, ◌≤◌, [], 
 ghost use Rattle.json.specs.Print.{escape, quoted};
 ghost use Rattle.serde_json.specs.Data.{string};
 ghost use Rattle.un_schema.specs.Names.{IsName};
-ghost use Rattle.un_replies.specs.Values.{count, counts};
+ghost use Rattle.un_values.specs.Values.{count, counts};
 ghost use Rattle.un_replies.specs.Pieces.{leading, following, opening};
+ghost use Rattle.un_replies.specs.Refusals.{placed};
 
-use crate::put::{put, put_counts, put_name, put_number, put_string};
+use crate::put::{put, put_counts, put_name, put_number, put_place, put_string};
+use un_geom::Point;
 use un_schema::Name;
 
 /// Puts a number and a comma after it.
@@ -37,6 +39,21 @@ pub(crate) fn lead_name(out: &mut Vec<u8>, name: &str, value: &Name)
     put_string(out, name);
     put(out, b":");
     put_name(out, value);
+    put(out, b",");
+}
+
+/// Puts a point, or null, and a comma after it.
+#[tactic(auto, using(crate::proofs::Steps::lead_one))]
+pub(crate) fn lead_place(out: &mut Vec<u8>, name: &str, place: Option<Point>)
+    requires plain { escape name.now ≡ name.now }
+    requires room { vec_len out.old + length name.now + 42 ≤ vec_capacity out.old }
+    ensures items { out.new.items ≡ out.old.items ++ leading ((name.now, placed place) ∷ []) }
+    ensures len { vec_len out.new ≤ vec_len out.old + length name.now + 42 }
+    ensures capacity { vec_capacity out.old ≤ vec_capacity out.new }
+{
+    put_string(out, name);
+    put(out, b":");
+    put_place(out, place);
     put(out, b",");
 }
 

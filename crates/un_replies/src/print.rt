@@ -58,7 +58,7 @@ fn add_command(reply: &Reply, out: &mut Vec<u8>) -> Result<(), AllocError>
 }
 
 // The text of a query's reply.
-#[tactic(auto, using(crate::proofs::Shows::text_of))]
+#[tactic(auto, using(un_values::proofs::Shows::text_of))]
 fn query_text(alloc: Global, reply: &Reply) -> Result<Vec<u8>, AllocError>
     requires { ¬ IsOfCommand reply.now }
     ensures { IfOk result (λ text. text.items ≡ print reply.now) }

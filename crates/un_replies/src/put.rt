@@ -3,9 +3,11 @@ ghost use Rattle.std.specs.Prelude.{◌≡◌, ℕ, ◌+◌, ◌*◌, ◌≤◌,
 ghost use Rattle.serde_json.specs.Written.{compact_text, comma_if, items_text};
 ghost use Rattle.json.specs.Print.{escape, quoted};
 ghost use Rattle.un_schema.specs.Names.{IsName};
-ghost use Rattle.un_replies.specs.Values.{count, counts, items_of};
+ghost use Rattle.un_values.specs.Values.{count, counts, items_of, tuple, whole};
+ghost use Rattle.un_replies.specs.Refusals.{placed};
 
 use itoa::Buffer;
+use un_geom::Point;
 use un_schema::Name;
 
 /// Puts a text.
@@ -93,4 +95,47 @@ pub(crate) fn put_counts(out: &mut Vec<u8>, numbers: &[u64])
     put(out, b"[");
     put_elements(out, numbers);
     put(out, b"]");
+}
+
+// Puts the digits of a whole number, with its sign.
+#[tactic(auto, using(crate::proofs::Shows::whole_printed))]
+fn put_whole(out: &mut Vec<u8>, number: i32)
+    requires { vec_len out.old + 11 ≤ vec_capacity out.old }
+    ensures items { out.new.items ≡ out.old.items ++ compact_text (whole number) }
+    ensures len { vec_len out.new ≤ vec_len out.old + 11 }
+    ensures capacity { vec_capacity out.old ≤ vec_capacity out.new }
+{
+    let mut buffer = Buffer::new();
+    put(out, buffer.format(number).as_bytes());
+}
+
+// Puts a point, by its coordinates.
+#[tactic(auto, unfolding(serde_json::proofs::OnLiterals::serde_json_on_literals))]
+fn put_coordinates(out: &mut Vec<u8>, x: i32, y: i32, z: i32)
+    requires { vec_len out.old + 37 ≤ vec_capacity out.old }
+    ensures items { out.new.items ≡ out.old.items ++ compact_text (tuple (whole x ∷ whole y ∷ whole z ∷ [])) }
+    ensures len { vec_len out.new ≤ vec_len out.old + 37 }
+    ensures capacity { vec_capacity out.old ≤ vec_capacity out.new }
+{
+    put(out, b"[");
+    put_whole(out, x);
+    put(out, b",");
+    put_whole(out, y);
+    put(out, b",");
+    put_whole(out, z);
+    put(out, b"]");
+}
+
+/// Puts a point, or null.
+#[tactic(auto, unfolding(serde_json::proofs::OnLiterals::serde_json_on_literals))]
+pub(crate) fn put_place(out: &mut Vec<u8>, place: Option<Point>)
+    requires { vec_len out.old + 37 ≤ vec_capacity out.old }
+    ensures items { out.new.items ≡ out.old.items ++ compact_text (placed place) }
+    ensures len { vec_len out.new ≤ vec_len out.old + 37 }
+    ensures capacity { vec_capacity out.old ≤ vec_capacity out.new }
+{
+    match place {
+        Some(Point { x, y, z }) => put_coordinates(out, x, y, z),
+        None => put(out, b"null"),
+    }
 }

@@ -6,10 +6,10 @@ ghost use Rattle.serde_json.specs.Written.{outline};
 ghost use Rattle.un_ask.specs.declared.reply.Reply.TheVariants as reply;
 ghost use Rattle.un_replies.specs.Commands.{IsOfCommand};
 ghost use Rattle.un_replies.specs.Replies.{reply_value, result_value, status_text, port};
-ghost use Rattle.un_replies.specs.Values.{counts, list};
+ghost use Rattle.un_values.specs.Values.{counts, list};
 
 use crate::feature::show_feature;
-use crate::to_json::{ToJson, count_member, list_member, string_member};
+use crate::to_json::{ToJson, list_member};
 use json::Writer;
 use std::alloc::AllocError;
 use un_ask::results::{Controllers, Edges, Labels, Parts, Pieces, Segments};
@@ -17,6 +17,7 @@ use un_ask::{Areas, PlacedErrors, Reply, ResultReply, Status};
 use un_defs::Ids;
 use un_defs::port::Ports;
 use un_schema::Name;
+use un_values::member::{count_member, string_member};
 
 fn show_version(version: u64, out: &mut Writer) -> Result<(), AllocError>
     ensures ok { OnOk result (out.new.tokens

@@ -10,7 +10,7 @@ ghost use Rattle.un_replies.specs.Commands.{HasName};
 ghost use Rattle.un_replies.specs.Refusals.{refusal_value, fields_value, fields_of, limit_text, has_version, edit_member, version_member};
 ghost use Rattle.un_replies.specs.Pieces.{leading, following, early, middle, late, last};
 
-use crate::member::{follow_count, follow_name, follow_string, lead_count, lead_name};
+use crate::member::{follow_count, follow_name, follow_string, lead_count, lead_name, lead_place};
 use crate::put::{put, put_number};
 use un_defs::{Limit, Refusal};
 use un_schema::Place;
@@ -55,6 +55,8 @@ fn number_of(refusal: &Refusal) -> u64
         Refusal::RuleExists { .. } => 46,
         Refusal::NotYet { .. } => 47,
         Refusal::ServeOnly => 48,
+        Refusal::WrongPage { .. } => 49,
+        Refusal::BadSpan { .. } => 50,
         // Running out of memory has a reply of its own.
         Refusal::Memory => 0,
     }
@@ -100,6 +102,8 @@ fn name_of(refusal: &Refusal) -> &'static str
         Refusal::RuleExists { .. } => "RuleExists",
         Refusal::NotYet { .. } => "NotYet",
         Refusal::ServeOnly => "ServeOnly",
+        Refusal::WrongPage { .. } => "WrongPage",
+        Refusal::BadSpan { .. } => "BadSpan",
         Refusal::Memory => "",
     }
 }
@@ -120,12 +124,12 @@ fn limit_text(limit: Limit) -> &'static str
 }
 
 // Puts what is carried before `edit`.
-#[tactic(auto, using(crate::proofs::Groups::early_none), unfolding(serde_json::proofs::OnLiterals::serde_json_on_literals))]
+#[tactic(auto, using(crate::proofs::Groups::early_none, crate::proofs::Groups::lead_two), unfolding(serde_json::proofs::OnLiterals::serde_json_on_literals))]
 fn put_early(out: &mut Vec<u8>, refusal: &Refusal)
     requires named { HasName refusal.now }
-    requires room { vec_len out.old + 64 ≤ vec_capacity out.old }
+    requires room { vec_len out.old + 80 ≤ vec_capacity out.old }
     ensures items { out.new.items ≡ out.old.items ++ leading (early refusal.now) }
-    ensures len { vec_len out.new ≤ vec_len out.old + 64 }
+    ensures len { vec_len out.new ≤ vec_len out.old + 80 }
     ensures capacity { vec_capacity out.old ≤ vec_capacity out.new }
 {
     match refusal {
@@ -133,6 +137,10 @@ fn put_early(out: &mut Vec<u8>, refusal: &Refusal)
         Refusal::AlreadyContained { by } => lead_count(out, "by", *by),
         Refusal::DirtyGround { area, .. } => lead_count(out, "area", *area),
         Refusal::BadAttribute { attribute } => lead_name(out, "attribute", attribute),
+        Refusal::WrongPage { after, at } => {
+            lead_place(out, "after", *after);
+            lead_count(out, "at", *at);
+        }
         _ => {}
     }
 }
@@ -200,6 +208,10 @@ fn put_late(out: &mut Vec<u8>, refusal: &Refusal)
         | Refusal::NoStart { port, .. }
         | Refusal::DirtyGround { port, .. } => follow_count(out, "port", *port as u64),
         Refusal::Ahead { seen, .. } => follow_count(out, "seen", *seen),
+        Refusal::BadSpan { since, upto } => {
+            follow_count(out, "since", *since);
+            follow_count(out, "upto", *upto);
+        }
         Refusal::StartIsValve { terminal, .. } | Refusal::NotIsolable { terminal, .. } => {
             follow_count(out, "terminal", *terminal as u64)
         }
@@ -238,7 +250,7 @@ fn put_edit(out: &mut Vec<u8>, edit: Option<u64>)
 fn has_version(number: u64) -> bool
     ensures { result ≡ has_version number }
 {
-    !matches!(number, 1 | 2 | 3 | 6 | 31 | 47 | 48)
+    !matches!(number, 1 | 2 | 3 | 6 | 31 | 47 | 48 | 49)
 }
 
 // Puts the version, if the refusal carries it.

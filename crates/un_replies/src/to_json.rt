@@ -1,9 +1,9 @@
 //! Values that replies show, written as tokens of JSON.
 ghost use Rattle.std.specs.Prelude.{◌≡◌, [], ◌∷◌, ◌++◌, OnOk};
-ghost use Rattle.json.specs.Token.{end_array, key, string};
+ghost use Rattle.json.specs.Token.{end_array, key};
 ghost use Rattle.json.specs.Tree.{json_tokens, items_tokens};
 ghost use Rattle.serde_json.specs.Written.{outline, items_outline};
-ghost use Rattle.un_replies.specs.Values.{count, items_of, list};
+ghost use Rattle.un_values.specs.Values.{items_of, list};
 ghost use Rattle.un_replies.specs.Replies.{error_text};
 
 use itoa::Buffer;
@@ -29,7 +29,7 @@ pub(crate) trait ToJson {
 }
 
 impl ToJson for u64 {
-    ghost use Rattle.un_replies.specs.Values.{count};
+    ghost use Rattle.un_values.specs.Values.{count};
 
     ghost json_value = { count };
 
@@ -39,7 +39,7 @@ impl ToJson for u64 {
 }
 
 impl ToJson for u8 {
-    ghost use Rattle.un_replies.specs.Values.{count};
+    ghost use Rattle.un_values.specs.Values.{count};
 
     ghost json_value = { count };
 
@@ -89,22 +89,22 @@ impl ToJson for Controller {
 }
 
 impl ToJson for i64 {
-    ghost use Rattle.un_replies.specs.Values.{whole};
+    ghost use Rattle.un_values.specs.Values.{whole};
 
     ghost json_value = { whole };
 
-    #[tactic(auto, using(crate::proofs::Shows::whole_tokens))]
+    #[tactic(auto, using(un_values::proofs::Shows::whole_tokens))]
     fn show(&self, out: &mut Writer) -> Result<(), AllocError> {
         out.i64(*self)
     }
 }
 
 impl ToJson for i32 {
-    ghost use Rattle.un_replies.specs.Values.{whole};
+    ghost use Rattle.un_values.specs.Values.{whole};
 
     ghost json_value = { whole };
 
-    #[tactic(auto, using(crate::proofs::Shows::whole_tokens))]
+    #[tactic(auto, using(un_values::proofs::Shows::whole_tokens))]
     fn show(&self, out: &mut Writer) -> Result<(), AllocError> {
         out.i64(*self as i64)
     }
@@ -178,7 +178,7 @@ impl ToJson for Option<i128> {
 
     ghost json_value = { total };
 
-    #[tactic(auto, using(crate::proofs::Shows::whole_tokens, crate::proofs::Shows::number_of_whole))]
+    #[tactic(auto, using(un_values::proofs::Shows::whole_tokens, crate::proofs::Shows::number_of_whole))]
     fn show(&self, out: &mut Writer) -> Result<(), AllocError> {
         match self {
             Some(value) => {
@@ -192,7 +192,7 @@ impl ToJson for Option<i128> {
 
 // What a walk costs.
 impl ToJson for u128 {
-    ghost use Rattle.un_replies.specs.Values.{count};
+    ghost use Rattle.un_values.specs.Values.{count};
 
     ghost json_value = { count };
 
@@ -262,7 +262,7 @@ impl ToJson for Edge {
 }
 
 // Writes the elements of a list.
-#[tactic(auto, using(crate::proofs::Shows::show_one, crate::proofs::Shows::show_all))]
+#[tactic(auto, using(un_values::proofs::Shows::show_one, un_values::proofs::Shows::show_all))]
 fn show_items<T: ToJson>(values: &[T], out: &mut Writer) -> Result<(), AllocError>
     ensures ok { OnOk result (out.new.tokens ++ end_array ∷ []
         ≡ out.old.tokens ++ items_tokens (items_outline (items_of T.json_value values.now))) }
@@ -275,7 +275,7 @@ fn show_items<T: ToJson>(values: &[T], out: &mut Writer) -> Result<(), AllocErro
 }
 
 /// Writes a list.
-#[tactic(auto, using(crate::proofs::Shows::list_steps))]
+#[tactic(auto, using(un_values::proofs::Shows::list_steps))]
 pub(crate) fn show_list<T: ToJson>(values: &[T], out: &mut Writer) -> Result<(), AllocError>
     ensures ok { OnOk result (out.new.tokens
         ≡ out.old.tokens ++ json_tokens (outline (list T.json_value values.now))) }
@@ -312,23 +312,4 @@ pub(crate) fn list_member<T: ToJson>(
 {
     out.key(name)?;
     show_list(values, out)
-}
-
-/// Writes a member that is a number.
-pub(crate) fn count_member(name: &str, number: u64, out: &mut Writer) -> Result<(), AllocError>
-    ensures ok { OnOk result (out.new.tokens
-        ≡ out.old.tokens ++ key name.now ∷ json_tokens (outline (count number))) }
-    ensures before { out.new.before ≡ out.old.before }
-{
-    out.key(name)?;
-    out.u64(number)
-}
-
-/// Writes a member that is a string.
-pub(crate) fn string_member(name: &str, text: &str, out: &mut Writer) -> Result<(), AllocError>
-    ensures ok { OnOk result (out.new.tokens ≡ out.old.tokens ++ key name.now ∷ string text.now ∷ []) }
-    ensures before { out.new.before ≡ out.old.before }
-{
-    out.key(name)?;
-    out.string(text)
 }

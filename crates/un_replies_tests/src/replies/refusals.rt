@@ -5,6 +5,7 @@ use std::alloc::Global;
 use std::test::Fail;
 use un_ask::Reply;
 use un_defs::{Limit, Refusal};
+use un_geom::Point;
 use un_schema::Place;
 
 // Whether the refusal is printed so, at version 7 and in no batch.
@@ -217,6 +218,37 @@ fn refusals_of_a_query_at_a_past_version(rt: HostRuntime) {
         ),
     ];
     assert_eq!(rt; printed, [true; 2]);
+}
+
+#[test]
+fn refusals_of_changes_and_pages(rt: HostRuntime) {
+    let alloc = rt.alloc();
+    let least = Point {
+        x: -1_000_000_000,
+        y: -1,
+        z: 0,
+    };
+    let printed = [
+        refused(
+            alloc,
+            Refusal::WrongPage { after: None, at: 2 },
+            b"{\"after\":null,\"at\":2,\"error\":49,\"name\":\"WrongPage\"}",
+        ),
+        refused(
+            alloc,
+            Refusal::WrongPage {
+                after: Some(least),
+                at: 9_007_199_254_740_991,
+            },
+            b"{\"after\":[-1000000000,-1,0],\"at\":9007199254740991,\"error\":49,\"name\":\"WrongPage\"}",
+        ),
+        refused(
+            alloc,
+            Refusal::BadSpan { since: 2, upto: 1 },
+            b"{\"error\":50,\"name\":\"BadSpan\",\"since\":2,\"upto\":1,\"version\":7}",
+        ),
+    ];
+    assert_eq!(rt; printed, [true; 3]);
 }
 
 #[test]

@@ -1,6 +1,7 @@
 use Rattle.std.proofs.Common.{◌≡◌, ◌++◌, ◌∷◌, []}
 use Rattle.json.specs.Token.{end_object}
-use Rattle.un_replies.proofs.Shows.{on_ok, attributes_steps}
+use Rattle.un_values.proofs.Shows.{on_ok}
+use Rattle.un_replies.proofs.Shows.{attributes_steps}
 use Rattle.un_replies.proofs.feature.show_attributes.Goals as goal
 
 pub returns-clause-ok : goal.returns-clause-ok

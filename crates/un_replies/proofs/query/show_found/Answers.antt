@@ -2,8 +2,8 @@ use Rattle.std.proofs.Common.{◌≡◌, ◌++◌, ◌∷◌, codes}
 use Rattle.json.specs.Token.{key}
 use Rattle.json.specs.Tree.{json_tokens}
 use Rattle.serde_json.specs.Written.{outline}
-use Rattle.un_replies.specs.Values.{counts}
-use Rattle.un_replies.proofs.Shows.{piece, on_ok}
+use Rattle.un_values.specs.Values.{counts}
+use Rattle.un_values.proofs.Shows.{piece, on_ok}
 use Rattle.un_replies.proofs.query.show_found.Goals as goal
 
 pub returns-clause-ok : goal.returns-clause-ok

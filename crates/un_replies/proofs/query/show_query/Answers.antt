@@ -2,9 +2,10 @@ use Rattle.std.proofs.Common.{◌≡◌, ◌++◌, ◌∷◌, [], codes, decimal
 use Rattle.json.specs.Token.{end_object, key, string, number}
 use Rattle.json.specs.Tree.{json_tokens}
 use Rattle.serde_json.specs.Written.{outline}
-use Rattle.un_replies.specs.Values.{counts, list}
+use Rattle.un_values.specs.Values.{counts, list}
 use Rattle.un_replies.specs.Replies.{reply_value, port, status_text}
-use Rattle.un_replies.proofs.Shows.{two_lists, on_ok}
+use Rattle.un_values.proofs.Shows.{on_ok}
+use Rattle.un_replies.proofs.Shows.{two_lists}
 use Rattle.un_replies.proofs.query.show_query.Goals as goal
 
 pub returns-in_ok-show_found-in-Subnet-clause-ok : goal.returns-in_ok-show_found-in-Subnet-clause-ok

@@ -1,6 +1,6 @@
 use Rattle.std.proofs.Common.{◌≡◌, ◌++◌, ◌∷◌, []}
 use Rattle.json.specs.Token.{end_object}
-use Rattle.un_replies.proofs.Shows.{piece, on_ok}
+use Rattle.un_values.proofs.Shows.{piece, on_ok}
 use Rattle.un_replies.proofs.query.show_result.Goals as goal
 
 pub returns-clause-ok : goal.returns-clause-ok

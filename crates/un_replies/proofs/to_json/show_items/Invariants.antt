@@ -1,5 +1,5 @@
 use Rattle.std.proofs.Common.{◌≡◌, drop}
-use Rattle.un_replies.proofs.Shows.{IsWrittenBut}
+use Rattle.un_values.proofs.Shows.{IsWrittenBut}
 use Rattle.un_replies.proofs.to_json.show_items.Given as goal
 
 abbrev pub invariant-loop-value : goal.invariant-loop-value
