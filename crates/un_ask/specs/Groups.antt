@@ -21,6 +21,8 @@ HasNumbers (refusal.StartIsValve feature terminal) = ⊤
 HasNumbers (refusal.DirtyGround area feature port) = ⊤
 HasNumbers (refusal.NotIsolable feature terminal) = ⊤
 HasNumbers (refusal.NotYet at latest) = ⊤
+HasNumbers (refusal.WrongPage after at) = ⊤
+HasNumbers (refusal.BadSpan since upto) = ⊤
 HasNumbers other = ⊥
 
 -- a reply that holds numbers and words alone

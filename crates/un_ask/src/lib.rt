@@ -24,7 +24,7 @@ pub use areas::{Areas, PlacedErrors, Points};
 pub use diagram::NamedDiagram;
 pub use edits::Edits;
 pub use path::{NamedCheck, NamedPath};
-pub use query::{Asked, PastQuery, Query};
+pub use query::{Asked, ChangesQuery, PastQuery, Query};
 pub use reply::{FeatureReply, Reply, ResultReply};
 pub use request::{Command, Request};
 pub use results::{

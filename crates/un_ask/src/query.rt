@@ -1,7 +1,7 @@
 use crate::diagram::NamedDiagram;
 use crate::path::{NamedCheck, NamedPath};
 use crate::trace::TraceAsk;
-use un_geom::Rect;
+use un_geom::{Point, Rect};
 use un_schema::Name;
 
 /// A question, which is refused where `seen` is over the version of the state that answers.
@@ -34,4 +34,20 @@ pub struct PastQuery {
     /// The version at which the question is answered.
     pub at: u64,
     pub what: Asked,
+}
+
+/// A question for the differences between the kept topologies of two versions, which is refused where `seen` is over the version that is
+/// read.
+#[derive(Clone, Copy, Debug, PartialEq, Eq, Hash)]
+pub struct ChangesQuery {
+    /// The least version that may be read.
+    pub seen: u64,
+    /// The version that the asker has.
+    pub since: u64,
+    /// The version that the asker wants to have, or that of the view that is read.
+    pub upto: Option<u64>,
+    /// Only changes at points after it are asked for.
+    pub after: Option<Point>,
+    /// The most changes of the answer, from 1 to 1,000.
+    pub most: u64,
 }

@@ -1,5 +1,5 @@
 use crate::edits::Edits;
-use crate::query::{PastQuery, Query};
+use crate::query::{ChangesQuery, PastQuery, Query};
 use crate::rule::NamedRule;
 use un_defs::Edit;
 use un_geom::Rect;
@@ -12,6 +12,8 @@ pub enum Request {
     Query(Query),
     /// A query at a past version, which a server answers and a script does not.
     Past(PastQuery),
+    /// A query for changes of the kept topology, which a server answers and a script does not.
+    Changes(ChangesQuery),
 }
 
 /// What may change the state.

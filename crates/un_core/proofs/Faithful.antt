@@ -18,6 +18,7 @@ replied : (S : Setup) (history : List Command) (s : State) → IsAfter S history
 replied S history s after (request.Command c) = ap (λ s. command_reply s c) after.is ∙ history_replies S history c after.may
 replied S history s after (request.Query q) = ap (λ s. answer s q) after.is ∙ history_answers S history q after.may
 replied S history s after (request.Past q) = refl
+replied S history s after (request.Changes q) = refl
 
 pub states_are_faithful : FaithfulLaw
 states_are_faithful S history s after = record {
@@ -36,3 +37,4 @@ requests_lead S history s (request.Command c) after =
     subst (λ t. IsAfter S (accepted_of t c ++ history) (state_after s c)) after.is (after_command S history s c after)
 requests_lead S history s (request.Query q) after = after
 requests_lead S history s (request.Past q) after = after
+requests_lead S history s (request.Changes q) after = after

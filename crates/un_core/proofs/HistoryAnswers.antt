@@ -18,7 +18,6 @@ use Rattle.un_core.specs.History.{after_all}
 use Rattle.un_core.specs.Cover.{IsState, MayAllHappen, IsOfHistory}
 use Rattle.un_core.specs.Listed.{errors_in}
 use Rattle.un_core.specs.Answers.{at_version, query_refusal, refused, asked_on, traced, traced_on, survey_for, kept_survey, fresh_survey, kept_basis, fresh_basis, path_over, check_over, diagram_over}
-use Rattle.un_core.specs.Walked.{Survey}
 use Rattle.un_core.specs.Walks.{TwoGroundsLaw}
 use Rattle.un_core.specs.Commands.{command_refusal, refusal_reply, accepted}
 use Rattle.un_core.specs.Clearing.{fresh_errors}

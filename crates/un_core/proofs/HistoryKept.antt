@@ -32,7 +32,7 @@ filter_both p q r h (x ∷ xs) = ap (λ b. cond b (x ∷ filter r xs) (filter r 
     go true rest = ap (λ l. cond (p x) (x ∷ l) l) rest
     go false rest = rest
 
-filter_all : {A : Type 0} (xs : List A) → filter (λ x. true) xs ≡ xs
+pub filter_all : {A : Type 0} (xs : List A) → filter (λ x. true) xs ≡ xs
 filter_all [] = refl
 filter_all (x ∷ xs) = ap (λ l. x ∷ l) (filter_all xs)
 
@@ -102,11 +102,11 @@ made_kept s (e ∷ es) = made_kept (made_at 0 s e) es
 
 -- ---- rules
 
-ruled_areas : (s : State) (o : Option Rule) → (ruled s o).areas ≡ s.areas ++ enumerate_from s.next_area (dirtied_by_rule s o)
+pub ruled_areas : (s : State) (o : Option Rule) → (ruled s o).areas ≡ s.areas ++ enumerate_from s.next_area (dirtied_by_rule s o)
 ruled_areas s None = sym (append-nil s.areas)
 ruled_areas s (Some rule) = refl
 
-ruled_kept : (s : State) (o : Option Rule) → (ruled s o).kept ≡ s.kept
+pub ruled_kept : (s : State) (o : Option Rule) → (ruled s o).kept ≡ s.kept
 ruled_kept s None = refl
 ruled_kept s (Some rule) = refl
 

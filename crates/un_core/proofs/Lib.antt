@@ -38,3 +38,7 @@ pub mod Taken
 pub mod Isolating
 pub mod Crossing
 mod StillFresh
+pub mod Elsewhere
+pub mod Rects
+pub mod Collecting
+pub mod Once

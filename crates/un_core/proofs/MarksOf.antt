@@ -28,7 +28,7 @@ module _ (p : Point) where
       go true rest none e = cc
       go false rest none e = none e
 
-  any_flat : (since : List LogEntry) → any (flat_map (λ e. e.mark) since) ≡ is_touched since p
+  pub any_flat : (since : List LogEntry) → any (flat_map (λ e. e.mark) since) ≡ is_touched since p
   any_flat [] = refl
   any_flat (e ∷ since) = list_any-append (λ r. covers r p) e.mark (flat_map (λ e. e.mark) since)
       ∙ ap (λ b. any e.mark || b) (any_flat since)

@@ -33,11 +33,11 @@ from_put set (q ∷ qs) p h = elim (from_put (insert_key point_cmp set q) qs p h
   | inr i ↦ inr (inr i)
 ]
 
-put_old : (set points : List Point) (p : Point) → Among set p → Among (put_all set points) p
+pub put_old : (set points : List Point) (p : Point) → Among set p → Among (put_all set points) p
 put_old set [] p h = h
 put_old set (q ∷ qs) p h = put_old (insert_key point_cmp set q) qs p (among-insert_key point_cmp set q p h)
 
-put_new : (set points : List Point) (p : Point) → Among points p → Among (put_all set points) p
+pub put_new : (set points : List Point) (p : Point) → Among points p → Among (put_all set points) p
 put_new set [] p h = absurd h
 put_new set (q ∷ qs) p h = elim h [
   | inl e ↦ subst (Among (put_all (insert_key point_cmp set q) qs)) e (put_old (insert_key point_cmp set q) qs q (among-inserted point_cmp set q (λ y _ t. point_ties q y t)))
@@ -56,7 +56,7 @@ pub record Gathers (F : Features) (kept : List (Point × Star)) (areas : List (�
   pub to : (p : Point) → is_under areas p ≡ true → Among set p ⊎ (IsBare F p × (value_at p kept ≡ None))
   pub sorted : IsStrictlySortedBy point_cmp set
 
-sorted_none : IsStrictlySortedBy point_cmp []
+pub sorted_none : IsStrictlySortedBy point_cmp []
 unfolding IsStrictlySortedBy
 sorted_none = tt
 
@@ -79,7 +79,7 @@ or_right : (a b : Bool) → b ≡ true → (a || b) ≡ true
 or_right true b e = refl
 or_right false b e = e
 
-or_cases : (a b : Bool) → (a || b) ≡ true → (a ≡ true) ⊎ (b ≡ true)
+pub or_cases : (a b : Bool) → (a || b) ≡ true → (a ≡ true) ⊎ (b ≡ true)
 or_cases true b e = inl refl
 or_cases false b e = inr e
 

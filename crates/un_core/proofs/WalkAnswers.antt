@@ -7,7 +7,7 @@ use Rattle.un_defs.specs.declared.walk.Mode.TheVariants.{Any}
 use Rattle.un_defs.specs.declared.walk.Barriers.{Barriers}
 use Rattle.un_defs.specs.Features.{Features}
 use Rattle.un_defs.specs.Orders.{same_port}
-use Rattle.un_defs.specs.Ground.{Ground, entry}
+use Rattle.un_defs.specs.Ground.{entry}
 use Rattle.un_defs.specs.Reach.{IsReach, leads, dirt}
 use Rattle.un_defs.specs.Ports.{nodes as nodes_of_all}
 use Rattle.un_defs.specs.Linked.{AreLinked}

@@ -21,3 +21,4 @@ pub mod Logs
 pub mod NoMemory
 pub mod Requests
 pub mod Preparing
+pub mod Changes

@@ -18,7 +18,7 @@ use Rattle.un_core.specs.Accepted.{IsAfter}
 use Rattle.un_core.specs.Clearing.{Validates}
 use Rattle.un_core.specs.Walks.{IsExact}
 
--- a script does not answer at past versions
+-- a script does not answer at past versions, nor for changes
 abbrev pub serve_only : Reply
 serve_only = Refused ServeOnly None 0
 
@@ -27,22 +27,26 @@ abbrev pub reply_to : State → Request → Reply
 reply_to s (request.Command c) = command_reply s c
 reply_to s (request.Query q) = answer s q
 reply_to s (request.Past q) = serve_only
+reply_to s (request.Changes q) = serve_only
 
 abbrev pub state_behind : State → Request → State
 state_behind s (request.Command c) = state_after s c
 state_behind s (request.Query q) = s
 state_behind s (request.Past q) = s
+state_behind s (request.Changes q) = s
 
 -- the reply after a history, and the history behind it
 abbrev pub reply_after : Setup → List Command → Request → Reply
 reply_after S history (request.Command c) = command_reply_after S history c
 reply_after S history (request.Query q) = answer_after S history q
 reply_after S history (request.Past q) = serve_only
+reply_after S history (request.Changes q) = serve_only
 
 abbrev pub history_behind : Setup → List Command → Request → List Command
 history_behind S history (request.Command c) = accepted_of (after_all S history) c ++ history
 history_behind S history (request.Query q) = history
 history_behind S history (request.Past q) = history
+history_behind S history (request.Changes q) = history
 
 -- ---- what is to be shown
 

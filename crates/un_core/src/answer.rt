@@ -138,7 +138,7 @@ impl Net {
     }
 
     /// The topology that is kept and the dirty areas, as traces go over them.
-    pub(crate) fn kept(&self) -> Kept<'_>
+    pub(crate) fn kept_ground(&self) -> Kept<'_>
         ensures stars { result.stars.now ≡ self.now.kept }
         ensures areas { result.dirty.now.areas ≡ self.now.areas }
     {
@@ -162,7 +162,7 @@ impl Net {
     {
         // For the proof alone.
         let _version = self.version();
-        let kept = self.kept();
+        let kept = self.kept_ground();
         trace(alloc, &kept, ask, steps)
     }
 
@@ -181,7 +181,7 @@ impl Net {
     {
         // For the proof alone.
         let _version = self.version();
-        let kept = self.kept();
+        let kept = self.kept_ground();
         loops(alloc, &kept, ask, steps)
     }
 
@@ -201,7 +201,7 @@ impl Net {
     {
         // For the proof alone.
         let _version = self.version();
-        let kept = self.kept();
+        let kept = self.kept_ground();
         isolate(alloc, &kept, ask, steps)
     }
 

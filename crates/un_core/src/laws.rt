@@ -1,5 +1,6 @@
 //! What holds of every state, each as what a function ensures that does nothing.
 
+ghost use Rattle.un_core.specs.Changes.{KeptElsewhereLaw, KeptWereFreshLaw};
 ghost use Rattle.un_core.specs.Commands.{StepLaw};
 ghost use Rattle.un_core.specs.Cover.{CoverLaw, HistoryLaw, StepLocalityLaw};
 ghost use Rattle.un_core.specs.Walks.{WalkLaw, TwoGroundsLaw};
@@ -39,4 +40,16 @@ pub fn two_grounds()
 #[tactic(auto, using(crate::proofs::Stepping::steps_reply))]
 pub fn steps_reply()
     ensures { StepLaw }
+{}
+
+/// Between two versions of one log, the kept star of a point is the same unless an area over it was cleared, or a command made the point
+/// dirty.
+#[tactic(auto, using(crate::proofs::Elsewhere::kept_elsewhere))]
+pub fn kept_elsewhere()
+    ensures { KeptElsewhereLaw }
+{}
+
+/// Each star that is kept after the commands of a log was the star of all features at its point, in some state on the way there.
+pub fn kept_stars_were_fresh()
+    ensures { KeptWereFreshLaw }
 {}

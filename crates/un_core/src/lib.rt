@@ -4,6 +4,7 @@
 mod answer;
 mod apply;
 mod batch;
+mod changes;
 mod edit;
 mod feature;
 pub mod histories;

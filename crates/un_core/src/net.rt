@@ -1,5 +1,6 @@
 //! The network.
 ghost use Rattle.std.specs.Prelude.{◌≡◌, ◌<◌, [], ◌∷◌, Some, None, length, IfOk, OnOk, IfErr};
+ghost use Rattle.un_schema.specs.Sound.{IsCatalog};
 ghost use Rattle.un_core.specs.State.{State, next_ids, opening};
 ghost use Rattle.un_core.specs.Cover.{IsState};
 ghost use Rattle.un_core.specs.Refusals.{numbers_refusal};
@@ -75,6 +76,31 @@ impl Net {
         ensures { result ≡ length self.now.features.rows }
     {
         self.facts.len()
+    }
+
+    /// The schema that the network was opened with.
+    pub fn schema(&self) -> &Schema
+        ensures schema { result.now ≡ self.now.setup.schema }
+        ensures catalog { IsCatalog self.now.setup.schema }
+    {
+        let schema = &self.facts.setup().schema;
+        // For the proof alone.
+        let _rules = schema.rules();
+        schema
+    }
+
+    /// The tiers that the network was opened with.
+    pub fn tiers(&self) -> &Tiers
+        ensures { result.now ≡ self.now.setup.tiers }
+    {
+        &self.facts.setup().tiers
+    }
+
+    /// The kept topology.
+    pub fn kept(&self) -> &Index
+        ensures { result.now ≡ self.now.kept }
+    {
+        &self.kept
     }
 
     /// How many rules are in force.

@@ -11,7 +11,8 @@ use std::alloc::{AllocError, Global};
 use std::collections::BTreeSet;
 use un_geom::{Point, Rect};
 
-fn add_all(set: &mut BTreeSet<Point>, points: &[Point]) -> Result<(), AllocError>
+/// Puts the points into the set.
+pub(crate) fn add_all(set: &mut BTreeSet<Point>, points: &[Point]) -> Result<(), AllocError>
     ensures { OnOk result (set.new.keys ≡ fold (insert_key point_cmp) set.old.keys points.now) }
 {
     for point in points {

@@ -136,7 +136,7 @@ impl Net {
             (reached (kept_survey self.now) ask.now.barriers Any ask.now.starts)) }
     {
         let mut steps = Steps::<Net>::new();
-        let kept = self.kept();
+        let kept = self.kept_ground();
         let reply = update(alloc, &kept, ask, &mut steps)?;
         row_in_reply(reply)
     }

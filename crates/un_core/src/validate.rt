@@ -120,7 +120,7 @@ impl Net {
         if self.stored.len() == 0 {
             return self.stored.share();
         }
-        let before = self.kept();
+        let before = self.kept_ground();
         let after = Kept {
             stars: kept,
             dirty: &self.dirty,

@@ -31,7 +31,7 @@ impl Net {
     {
         // For the proof alone.
         let _version = self.version();
-        let kept = self.kept();
+        let kept = self.kept_ground();
         path(alloc, &kept, ask, steps)
     }
 
@@ -51,7 +51,7 @@ impl Net {
     {
         // For the proof alone.
         let _version = self.version();
-        let kept = self.kept();
+        let kept = self.kept_ground();
         check(alloc, &kept, ask, steps)
     }
 
@@ -71,7 +71,7 @@ impl Net {
     {
         // For the proof alone.
         let _version = self.version();
-        let kept = self.kept();
+        let kept = self.kept_ground();
         diagram(alloc, &kept, ask, steps)
     }
 

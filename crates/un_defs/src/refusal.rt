@@ -2,6 +2,7 @@ ghost use Rattle.un_defs.specs.declared.refusal.Refusal.TheVariants.{Memory};
 ghost use Rattle.std.specs.Prelude.{◌≡◌};
 
 use std::alloc::AllocError;
+use un_geom::Point;
 use un_schema::{Name, Place};
 
 /// Why a request is refused. A refusal leaves the state as it was.
@@ -127,6 +128,16 @@ pub enum Refusal {
     },
     /// A script does not answer at past versions; a server does.
     ServeOnly,
+    /// The page does not go on from what the follower has: its version, and the last point of the pages before it.
+    WrongPage {
+        after: Option<Point>,
+        at: u64,
+    },
+    /// Changes are asked for from a version on that comes after the one up to which they are asked for.
+    BadSpan {
+        since: u64,
+        upto: u64,
+    },
     /// There was no memory; nothing has changed.
     Memory,
 }

@@ -3,7 +3,7 @@ ghost use Rattle.std.specs.Prelude.{◌≡◌, ◌↔◌, ◌<◌, ◌≤◌, �
 ghost use Rattle.std.specs.Option.{option_map};
 ghost use Rattle.std.specs.List.{enumerate_from, AllByRecursion};
 ghost use Rattle.un_geom.specs.Places.{meets, covers};
-ghost use Rattle.un_dirty.specs.Areas.{no_areas, added, cleared, least_number, without_all as all_removed, IsNumbered};
+ghost use Rattle.un_dirty.specs.Areas.{no_areas, added, cleared, least_number, has_area, areas_gone, without_all as all_removed, IsNumbered};
 
 use crate::cells::{Cells, least_over, with_areas, without_areas};
 use std::alloc::{AllocError, Global};
@@ -148,6 +148,13 @@ impl Dirty {
         })
     }
 
+    /// The areas that a later list no longer has, with their numbers, rising. Areas compare by their numbers.
+    pub fn gone(&self, alloc: Global, later: &Dirty) -> Result<Vec<(u64, Rect)>, Memory>
+        ensures { IfOk result (λ gone. gone.items ≡ areas_gone self.now.areas later.now.areas) }
+    {
+        areas_gone(&self.areas, alloc, &later.areas)
+    }
+
     /// The least number of an area that covers the point.
     pub fn least_at(&self, p: Point) -> Option<u64>
         ensures first { result ≡ option_map (λ a. a.0) (find (λ a. covers a.1 p) self.now.areas) }
@@ -193,6 +200,29 @@ fn areas_meeting(
         }
     }
     Ok(met)
+}
+
+fn has_area(areas: &Paged<u64, Rect>, number: u64) -> bool
+    ensures { result ≡ has_area areas.now number }
+{
+    areas.get(&number).is_some()
+}
+
+// The areas of which no later one has the number.
+fn areas_gone(
+    areas: &Paged<u64, Rect>,
+    alloc: Global,
+    later: &Paged<u64, Rect>,
+) -> Result<Vec<(u64, Rect)>, Memory>
+    ensures { IfOk result (λ gone. gone.items ≡ areas_gone areas.now later.now) }
+{
+    let mut gone = Vec::new(alloc);
+    for (number, rect) in areas.range(Bound::Unbounded) {
+        if !has_area(later, number) {
+            gone.push((number, **rect))?;
+        }
+    }
+    Ok(gone)
 }
 
 // How many levels may be in use: none once no area is left.

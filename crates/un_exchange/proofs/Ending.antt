@@ -7,12 +7,13 @@ use Rattle.un_publish.specs.declared.session.Denied.{Denied}
 use Rattle.un_http.specs.declared.check.Check.{Check}
 use Rattle.un_http.specs.declared.check.Check.TheVariants.{BadHead, ManyHeaders, NotSupported, LongBody, NoLength}
 use Rattle.un_turns.specs.declared.request.Response.{Response}
-use Rattle.un_turns.specs.declared.request.Response.TheVariants.{Nothing, Accepted, Refused, Answer, PastAnswer, Ahead, NotYet, Denied as IsDenied, Memory}
+use Rattle.un_turns.specs.declared.request.Response.TheVariants.{Nothing, Accepted, Refused, Answer, PastAnswer, BetweenAnswer, Reversed, Ahead, NotYet, Denied as IsDenied, Memory}
 use Rattle.un_turns.specs.Truths.{all_denials}
 use Rattle.un_exchange.specs.declared.asked.Asked.{Asked}
 use Rattle.un_exchange.specs.declared.end.LinkEnd.TheVariants as end
 use Rattle.un_exchange.specs.Exchanges.{Printing, Exchange, end_if, end_after, responses}
 use Rattle.un_exchange.specs.Writing.{check_end}
+use Rattle.un_turns.specs.Served.{Answering}
 use Rattle.un_exchange.specs.Links.{HasServed}
 
 -- a request that asks to close the link does not end it so
@@ -31,6 +32,8 @@ module _ {R A : Type 0} where
   ends_denied close (Refused v reply) d e = absurd (not_denied close d e)
   ends_denied close (Answer v answer) d e = absurd (not_denied close d e)
   ends_denied close (PastAnswer v answer) d e = absurd (not_denied close d e)
+  ends_denied close (BetweenAnswer v answer) d e = absurd (not_denied close d e)
+  ends_denied close (Reversed v since upto) d e = absurd (not_denied close d e)
   ends_denied close (Ahead a) d e = absurd (not_denied close d e)
   ends_denied close (NotYet a) d e = absurd (not_denied close d e)
   ends_denied close (IsDenied f) d e = cc e
@@ -46,7 +49,7 @@ check_not_denied NoLength d e = absurd (cc e)
 rose : (old new count : ℕ) → new ≡ min (old + count) (2 ^ 64 - 1) → 1 ≤ count → Rose old new
 rose old new count e some below = omega (arith, e, some, below)
 
-module _ {M C R H K Q A : Type 0} (step : M → C → (M × (R × K)) ⊎ R) (opening : List M) (least : Q → ℕ) (answer : M → Q → A) (asks : List ℕ → List ℕ → List ℕ → Asked C Q → Type 0) (p : Printing R A) where
+module _ {M C R H K Q A : Type 0} (step : M → C → (M × (R × K)) ⊎ R) (opening : List M) (least : Q → ℕ) (answer : Answering M Q A) (asks : List ℕ → List ℕ → List ℕ → Asked C Q → Type 0) (p : Printing R A) where
   pub denied_rose : (s t : SessionModel M C R H K) (l l' k k' : Option (List ℕ)) (d : Denied) → HasServed step opening least answer asks p s t l l' k k' (end.Denied d) → Rose s.denied t.denied
   denied_rose s t l l' k k' d h =
       elim h.ends as (λ _. Rose s.denied t.denied) [

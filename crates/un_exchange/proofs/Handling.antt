@@ -6,9 +6,9 @@ use Rattle.un_http.specs.Answers.{given}
 use Rattle.un_turns.specs.declared.request.Request.{Request}
 use Rattle.un_turns.specs.declared.request.Request.TheVariants.{Command as Decide}
 use Rattle.un_turns.specs.declared.request.Response.{Response}
-use Rattle.un_turns.specs.declared.request.Response.TheVariants.{Nothing, Accepted, Refused, Answer, PastAnswer, Ahead, NotYet, Denied, Memory}
+use Rattle.un_turns.specs.declared.request.Response.TheVariants.{Nothing, Accepted, Refused, Answer, PastAnswer, BetweenAnswer, Reversed, Ahead, NotYet, Denied, Memory}
 use Rattle.un_turns.specs.Turns.{Passed}
-use Rattle.un_turns.specs.Served.{IsServed, IsReplyOf}
+use Rattle.un_turns.specs.Served.{Answering, IsServed, IsReplyOf}
 use Rattle.un_turns.specs.Truths.{LostLaw}
 use Rattle.un_exchange.specs.declared.asked.Asked.{Asked}
 use Rattle.un_exchange.specs.declared.asked.Asked.TheVariants.{Page}
@@ -29,6 +29,8 @@ module _ {M C R K Q A : Type 0} (step : M → C → (M × (R × K)) ⊎ R) (fits
   fits_in q (Refused v reply) a f h = (f h.0 h.2).1 h.1 reply h.3
   fits_in q (Answer v answer) a f h = tt
   fits_in q (PastAnswer v answer) a f h = tt
+  fits_in q (BetweenAnswer v answer) a f h = tt
+  fits_in q (Reversed v since upto) a f h = tt
   fits_in q (Ahead n) a f h = tt
   fits_in q (NotYet n) a f h = tt
   fits_in q (Denied d) a f h = tt
@@ -47,7 +49,7 @@ module _ {C R Q A : Type 0} (p : Printing R A) where
   past_written response v a printed o e (inl (page, f, h)) = (response, inl refl, λ asked. rw (e, h) (record { says = f; ends = λ close. refl }))
   past_written response v a printed o e (inr h) = (Memory, inr (v, a, e, refl), λ asked. rw h (record { says = refl; ends = λ close. refl }))
 
-module _ {M C R H K Q A : Type 0} (step : M → C → (M × (R × K)) ⊎ R) (opening : List M) (least : Q → ℕ) (answer : M → Q → A) (asks : List ℕ → List ℕ → List ℕ → Asked C Q → Type 0) (p : Printing R A) where
+module _ {M C R H K Q A : Type 0} (step : M → C → (M × (R × K)) ⊎ R) (opening : List M) (least : Q → ℕ) (answer : Answering M Q A) (asks : List ℕ → List ℕ → List ℕ → Asked C Q → Type 0) (p : Printing R A) where
   -- memory ran out before it was known what is asked
   pub handled_memory : (s : SessionModel M C R H K) (inbox : Holding) (printed : List ℕ) → IsHandled step opening least answer asks p s s inbox printed out.Memory
   handled_memory s inbox printed = record {

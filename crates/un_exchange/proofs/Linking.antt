@@ -14,7 +14,7 @@ use Rattle.un_http.specs.Requests.{Request as Received, IsRequest, AreFirst, Fai
 use Rattle.un_turns.specs.declared.request.Request.{Request}
 use Rattle.un_turns.specs.declared.request.Response.{Response}
 use Rattle.un_turns.specs.Own.{IsWithin}
-use Rattle.un_turns.specs.Served.{AreServed, IsServed}
+use Rattle.un_turns.specs.Served.{Answering, AreServed, IsServed}
 use Rattle.un_turns.specs.Truths.{MoreLaw, TruthLaw}
 use Rattle.un_exchange.specs.declared.asked.Asked.{Asked}
 use Rattle.un_exchange.specs.declared.end.LinkEnd.{LinkEnd}
@@ -62,7 +62,7 @@ module _ {C R Q A : Type 0} where
   first_more next bytes read held held' xs x f r =
       subst (λ (l : List Received). AreFirst (bytes ++ read) l held') (sym (map-append (λ (y : Exchange C R Q A). y.request) xs (x ∷ []))) (next bytes read held held' (received xs) x.request f r)
 
-module _ {M C R H K Q A : Type 0} (step : M → C → (M × (R × K)) ⊎ R) (opening : List M) (least : Q → ℕ) (answer : M → Q → A) (asks : List ℕ → List ℕ → List ℕ → Asked C Q → Type 0) (p : Printing R A) where
+module _ {M C R H K Q A : Type 0} (step : M → C → (M × (R × K)) ⊎ R) (opening : List M) (least : Q → ℕ) (answer : Answering M Q A) (asks : List ℕ → List ℕ → List ℕ → Asked C Q → Type 0) (p : Printing R A) where
   -- nothing has been read
   pub exchanged_none : (s : SessionModel M C R H K) (left taken : Option (List ℕ)) → HasExchanged step opening least answer asks p s s left left taken taken []
   exchanged_none s left taken = record {

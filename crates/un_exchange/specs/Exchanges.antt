@@ -4,24 +4,25 @@ use Rattle.std.proofs.Common.{inl, inr}
 use Rattle.std.specs.List.{All}
 use Rattle.un_http.specs.Requests.{Request as Received}
 use Rattle.un_turns.specs.declared.request.Request.{Request}
-use Rattle.un_turns.specs.declared.request.Request.TheVariants.{Other, Command as Decide, Query as Find, Past as Recall}
+use Rattle.un_turns.specs.declared.request.Request.TheVariants.{Other, Command as Decide, Query as Find, Past as Recall, Between as Compare}
 use Rattle.un_turns.specs.declared.request.Response.{Response}
-use Rattle.un_turns.specs.declared.request.Response.TheVariants.{Nothing, Accepted, Refused, Answer, PastAnswer, Ahead, NotYet, Denied, Memory}
+use Rattle.un_turns.specs.declared.request.Response.TheVariants.{Nothing, Accepted, Refused, Answer, PastAnswer, BetweenAnswer, Reversed, Ahead, NotYet, Denied, Memory}
 use Rattle.un_exchange.specs.declared.asked.Asked.{Asked}
-use Rattle.un_exchange.specs.declared.asked.Asked.TheVariants.{Page, Command, Query, Past}
+use Rattle.un_exchange.specs.declared.asked.Asked.TheVariants.{Page, Command, Query, Past, Between}
 use Rattle.un_exchange.specs.declared.end.LinkEnd.{LinkEnd}
 use Rattle.un_exchange.specs.declared.end.LinkEnd.TheVariants as end
 use Rattle.un_exchange.specs.declared.status.Status.TheVariants as status
-use Rattle.un_exchange.specs.Pages.{PageModel, http_page, memory_page, conflict_page, response_bytes}
+use Rattle.un_exchange.specs.Pages.{PageModel, http_page, memory_page, conflict_page, reversed_page, response_bytes}
 
 -- What replies and answers are printed as, an answer at a past version with the version of its response; and the bodies for a query that asks for
--- more entries than there are, and for a past version that is over them.
+-- more entries than there are, for a version that is over them, and for two versions of which the first comes after the second.
 pub record Printing (R A : Type 0) : Type 0 where
   pub reply : R → PageModel
   pub answer : A → PageModel
   pub past : ℕ → A → PageModel
   pub ahead : ℕ → ℕ → List ℕ
   pub not_yet : ℕ → ℕ → List ℕ
+  pub reversed : ℕ → ℕ → ℕ → List ℕ
 
 module _ {M C R K : Type 0} where
   -- each reply that a step gives to the command fits
@@ -41,6 +42,8 @@ module _ {R A : Type 0} where
   end_after close (Refused v reply) = end_if close
   end_after close (Answer v answer) = end_if close
   end_after close (PastAnswer v answer) = end_if close
+  end_after close (BetweenAnswer v answer) = end_if close
+  end_after close (Reversed v since upto) = end_if close
   end_after close (Ahead a) = end_if close
   end_after close (NotYet a) = end_if close
   end_after close (Denied d) = Some (end.Denied d)
@@ -53,6 +56,7 @@ module _ {C Q : Type 0} where
   request_of (Command cmd) = Decide cmd
   request_of (Query query) = Find query
   request_of (Past at query) = Recall at query
+  request_of (Between since upto query) = Compare since upto query
 
   -- the page of a request that asks nothing of the session
   abbrev pub own_page : Asked C Q → PageModel
@@ -60,6 +64,7 @@ module _ {C Q : Type 0} where
   own_page (Command cmd) = memory_page
   own_page (Query query) = memory_page
   own_page (Past at query) = memory_page
+  own_page (Between since upto query) = memory_page
 
 module _ {C R Q A : Type 0} where
   -- what a response says
@@ -69,6 +74,8 @@ module _ {C R Q A : Type 0} where
   page_of p asked (Refused v reply) = p.reply reply
   page_of p asked (Answer v answer) = p.answer answer
   page_of p asked (PastAnswer v answer) = p.past v answer
+  page_of p asked (BetweenAnswer v answer) = p.answer answer
+  page_of p asked (Reversed v since upto) = reversed_page (p.reversed v since upto)
   page_of p asked (Ahead a) = conflict_page (p.ahead a.seen a.latest)
   page_of p asked (NotYet a) = conflict_page (p.not_yet a.seen a.latest)
   page_of p asked (Denied d) = http_page status.Denied

@@ -3,11 +3,11 @@ use Rattle.std.specs.Prelude.{◌≡◌, ◌⊎◌, ℕ, Bool, List, Option, ⊤
 use Rattle.un_publish.specs.Models.{SessionModel}
 use Rattle.un_http.specs.States.{Holding}
 use Rattle.un_http.specs.Answers.{given}
-use Rattle.un_turns.specs.Served.{IsServed}
+use Rattle.un_turns.specs.Served.{Answering, IsServed}
 use Rattle.un_turns.specs.declared.request.Request.{Request}
-use Rattle.un_turns.specs.declared.request.Request.TheVariants.{Other, Command, Query, Past}
+use Rattle.un_turns.specs.declared.request.Request.TheVariants.{Other, Command, Query, Past, Between}
 use Rattle.un_turns.specs.declared.request.Response.{Response}
-use Rattle.un_turns.specs.declared.request.Response.TheVariants.{Nothing, Accepted, Refused, Answer, PastAnswer, Ahead, NotYet, Denied, Memory}
+use Rattle.un_turns.specs.declared.request.Response.TheVariants.{Nothing, Accepted, Refused, Answer, PastAnswer, BetweenAnswer, Reversed, Ahead, NotYet, Denied, Memory}
 use Rattle.un_exchange.specs.declared.asked.Asked.{Asked}
 use Rattle.un_exchange.specs.declared.end.LinkEnd.{LinkEnd}
 use Rattle.un_exchange.specs.declared.respond.Outgoing.{Outgoing}
@@ -15,12 +15,13 @@ use Rattle.un_exchange.specs.Exchanges.{Printing, Exchange, IsAsked, request_of,
 use Rattle.un_exchange.specs.Writing.{IsOutgoing, Writes}
 
 module _ {C Q : Type 0} where
-  -- a command, a query, or a query at a past version
+  -- a command, or a query at one version or about two
   abbrev pub AsksSession : Request C Q → Type 0
   AsksSession Other = ⊥
   AsksSession (Command cmd) = ⊤
   AsksSession (Query query) = ⊤
   AsksSession (Past at query) = ⊤
+  AsksSession (Between since upto query) = ⊤
 
 module _ {R A : Type 0} where
   -- a response of the session, whose reply fits
@@ -30,6 +31,8 @@ module _ {R A : Type 0} where
   FitsIn fits (Refused v reply) = fits reply
   FitsIn fits (Answer v answer) = ⊤
   FitsIn fits (PastAnswer v answer) = ⊤
+  FitsIn fits (BetweenAnswer v answer) = ⊤
+  FitsIn fits (Reversed v since upto) = ⊤
   FitsIn fits (Ahead a) = ⊤
   FitsIn fits (NotYet a) = ⊤
   FitsIn fits (Denied d) = ⊤
@@ -41,7 +44,7 @@ module _ {R A : Type 0} where
 
 module _ {M C R H K Q A : Type 0} where
   -- a request was handled, and this is to be written
-  pub record IsHandled (step : M → C → (M × (R × K)) ⊎ R) (opening : List M) (least : Q → ℕ) (answer : M → Q → A) (asks : List ℕ → List ℕ → List ℕ → Asked C Q → Type 0) (p : Printing R A)
+  pub record IsHandled (step : M → C → (M × (R × K)) ⊎ R) (opening : List M) (least : Q → ℕ) (answer : Answering M Q A) (asks : List ℕ → List ℕ → List ℕ → Asked C Q → Type 0) (p : Printing R A)
       (s t : SessionModel M C R H K) (inbox : Holding) (printed : List ℕ) (out : Outgoing) : Type 0 where
     pub asked : Asked C Q
     pub response : Response R A
@@ -50,7 +53,7 @@ module _ {M C R H K Q A : Type 0} where
     pub outgoing : IsOutgoing p asked response printed out
 
   -- a request was handled, and its response written, unless a write failed
-  pub record IsAnswered (step : M → C → (M × (R × K)) ⊎ R) (opening : List M) (least : Q → ℕ) (answer : M → Q → A) (asks : List ℕ → List ℕ → List ℕ → Asked C Q → Type 0) (p : Printing R A)
+  pub record IsAnswered (step : M → C → (M × (R × K)) ⊎ R) (opening : List M) (least : Q → ℕ) (answer : Answering M Q A) (asks : List ℕ → List ℕ → List ℕ → Asked C Q → Type 0) (p : Printing R A)
       (s t : SessionModel M C R H K) (taken taken' : Option (List ℕ)) (inbox : Holding) (close : Bool) (result : Option LinkEnd) : Type 0 where
     pub exchange : Exchange C R Q A
     pub request : exchange.request ≡ given inbox close

@@ -7,7 +7,7 @@ use Rattle.un_publish.specs.Models.{SessionModel}
 use Rattle.un_http.specs.Block.{IsBlank}
 use Rattle.un_http.specs.Requests.{AreFirst, FailsAt, IsCut}
 use Rattle.un_http.specs.declared.check.Check.{Check}
-use Rattle.un_turns.specs.Served.{AreServed}
+use Rattle.un_turns.specs.Served.{Answering, AreServed}
 use Rattle.un_turns.specs.Truths.{IsTruthful}
 use Rattle.un_exchange.specs.declared.asked.Asked.{Asked}
 use Rattle.un_exchange.specs.declared.end.LinkEnd.{LinkEnd}
@@ -19,7 +19,7 @@ use Rattle.un_exchange.specs.Writing.{Writes, page_bytes, check_end}
 module _ {M C R H K Q A : Type 0} where
   -- The exchanges of a link so far: the bytes that were read are their requests and then what is held; the session handled them in order; none
   -- closes the link; and the bytes that were written are their responses.
-  pub record HasExchanged (step : M → C → (M × (R × K)) ⊎ R) (opening : List M) (least : Q → ℕ) (answer : M → Q → A) (asks : List ℕ → List ℕ → List ℕ → Asked C Q → Type 0) (p : Printing R A)
+  pub record HasExchanged (step : M → C → (M × (R × K)) ⊎ R) (opening : List M) (least : Q → ℕ) (answer : Answering M Q A) (asks : List ℕ → List ℕ → List ℕ → Asked C Q → Type 0) (p : Printing R A)
       (s t : SessionModel M C R H K) (left left' taken taken' : Option (List ℕ)) (held : List ℕ) : Type 0 where
     pub read : List ℕ
     pub exchanges : List (Exchange C R Q A)
@@ -77,7 +77,7 @@ module _ {C R Q A : Type 0} where
 
 module _ {M C R H K Q A : Type 0} where
   -- The whole of a link: the bytes that were read begin with the requests of the exchanges; the session handled these in order; and so it ended.
-  pub record HasEnded (step : M → C → (M × (R × K)) ⊎ R) (opening : List M) (least : Q → ℕ) (answer : M → Q → A) (asks : List ℕ → List ℕ → List ℕ → Asked C Q → Type 0) (p : Printing R A)
+  pub record HasEnded (step : M → C → (M × (R × K)) ⊎ R) (opening : List M) (least : Q → ℕ) (answer : Answering M Q A) (asks : List ℕ → List ℕ → List ℕ → Asked C Q → Type 0) (p : Printing R A)
       (s t : SessionModel M C R H K) (left left' taken taken' : Option (List ℕ)) (end : LinkEnd) : Type 0 where
     pub read : List ℕ
     pub exchanges : List (Exchange C R Q A)
@@ -89,7 +89,7 @@ module _ {M C R H K Q A : Type 0} where
     pub ends : Ends p exchanges rest left' taken taken' end
 
   -- One more request: from what holds of a link so far, either the link goes on and this holds of it, or it has ended.
-  abbrev pub Proceeds : (M → C → (M × (R × K)) ⊎ R) → List M → (Q → ℕ) → (M → Q → A) → (List ℕ → List ℕ → List ℕ → Asked C Q → Type 0) → Printing R A
+  abbrev pub Proceeds : (M → C → (M × (R × K)) ⊎ R) → List M → (Q → ℕ) → Answering M Q A → (List ℕ → List ℕ → List ℕ → Asked C Q → Type 0) → Printing R A
       → SessionModel M C R H K → SessionModel M C R H K → Option (List ℕ) → Option (List ℕ) → Option (List ℕ) → Option (List ℕ) → List ℕ → List ℕ → Option LinkEnd → Type 0
   Proceeds step opening least answer asks p m t left left' taken taken' held held' result =
       (s : SessionModel M C R H K) (left_first taken_first : Option (List ℕ)) → HasExchanged step opening least answer asks p s m left_first left taken_first taken held
@@ -104,7 +104,7 @@ module _ {M C R H K : Type 0} where
 
 module _ {M C R H K Q A : Type 0} where
   -- the whole of a link, with all that is promised of its requests and their responses
-  pub record HasServed (step : M → C → (M × (R × K)) ⊎ R) (opening : List M) (least : Q → ℕ) (answer : M → Q → A) (asks : List ℕ → List ℕ → List ℕ → Asked C Q → Type 0) (p : Printing R A)
+  pub record HasServed (step : M → C → (M × (R × K)) ⊎ R) (opening : List M) (least : Q → ℕ) (answer : Answering M Q A) (asks : List ℕ → List ℕ → List ℕ → Asked C Q → Type 0) (p : Printing R A)
       (s t : SessionModel M C R H K) (left left' taken taken' : Option (List ℕ)) (end : LinkEnd) : Type 0 where
     pub read : List ℕ
     pub exchanges : List (Exchange C R Q A)
@@ -115,7 +115,7 @@ module _ {M C R H K Q A : Type 0} where
     pub truthful : IsTruthful step opening least answer s (requests exchanges) (responses exchanges) t
     pub ends : Ends p exchanges rest left' taken taken' end
 
-  abbrev pub Serves : (M → C → (M × (R × K)) ⊎ R) → List M → (Q → ℕ) → (M → Q → A) → (List ℕ → List ℕ → List ℕ → Asked C Q → Type 0) → Printing R A
+  abbrev pub Serves : (M → C → (M × (R × K)) ⊎ R) → List M → (Q → ℕ) → Answering M Q A → (List ℕ → List ℕ → List ℕ → Asked C Q → Type 0) → Printing R A
       → SessionModel M C R H K → SessionModel M C R H K → Option (List ℕ) → Option (List ℕ) → Option (List ℕ) → Option (List ℕ) → LinkEnd → Type 0
   Serves step opening least answer asks p s t left left' taken taken' end =
       HasServed step opening least answer asks p s t left left' taken taken' end ⊎ HasNoRoom s t left left' taken taken' end

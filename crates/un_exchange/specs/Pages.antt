@@ -63,6 +63,10 @@ memory_page = page status.Unavailable (codes "{\"memory\":true}")
 abbrev pub conflict_page : List ℕ → PageModel
 conflict_page body = page status.Conflict body
 
+-- a query about two versions of which the first comes after the second
+abbrev pub reversed_page : List ℕ → PageModel
+reversed_page body = page status.Unprocessable body
+
 -- the status of a check that a request failed
 abbrev pub check_status : Check → Status
 check_status BadHead = status.BadRequest

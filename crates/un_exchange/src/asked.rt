@@ -10,5 +10,15 @@ pub enum Asked<C, Q> {
     Command(C),
     Query(Q),
     /// The query at a past version: at the state after the first `at` entries of the log.
-    Past { at: u64, query: Q },
+    Past {
+        at: u64,
+        query: Q,
+    },
+    /// The query about two versions: the states after the first `since` and the first `upto` entries of the log, or the version of the
+    /// view that is read.
+    Between {
+        since: u64,
+        upto: Option<u64>,
+        query: Q,
+    },
 }

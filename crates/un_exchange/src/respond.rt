@@ -3,7 +3,7 @@ ghost use Rattle.std.specs.Prelude.{◌≡◌, ◌⊎◌, ℕ, ◌≤◌, [], ve
 ghost use Rattle.un_turns.specs.Pasts.{IsKeptFor};
 ghost use Rattle.un_turns.specs.declared.request.Request.TheVariants.{Command as CommandOf};
 ghost use Rattle.un_turns.specs.declared.request.Response.{Response as ResponseOf};
-ghost use Rattle.un_turns.specs.Served.{IsServed};
+ghost use Rattle.un_turns.specs.Served.{answering, IsServed};
 ghost use Rattle.un_exchange.specs.declared.asked.Asked.{Asked as AskedOf};
 ghost use Rattle.un_exchange.specs.Exchanges.{CanPrint};
 ghost use Rattle.un_exchange.specs.Pages.{PageModel};
@@ -70,6 +70,15 @@ fn print_response<M: Machine, S: Service<M>>(
         }
         Response::Answer { version: _, answer } => Outgoing::Page(S::answer_page(answer)),
         Response::PastAnswer { version, answer } => past_outgoing::<M, S>(alloc, version, answer),
+        Response::BetweenAnswer { version: _, answer } => Outgoing::Page(S::answer_page(answer)),
+        Response::Reversed {
+            version,
+            since,
+            upto,
+        } => {
+            S::print_reversed(version, since, upto, out);
+            Outgoing::Printed(Status::Unprocessable)
+        }
         Response::Ahead(ahead) => {
             S::print_ahead(&ahead, out);
             Outgoing::Printed(Status::Conflict)
@@ -102,7 +111,7 @@ where
     requires past { IsKeptFor M.step J.opening past.old session.old.seen }
     ensures past { IsKeptFor M.step J.opening past.new session.new.seen }
     ensures handled { (response : ResponseOf M.Reply S.Answer)
-        × IsServed M.step J.opening S.least S.answer session.old request response session.new
+        × IsServed M.step J.opening S.least (answering S.answer S.between) session.old request response session.new
         × ((asked : AskedOf M.Cmd S.Query) → IsOutgoing S.printing asked response out.new.items result) }
     ensures capacity { vec_capacity out.old ≤ vec_capacity out.new }
 {
@@ -129,7 +138,7 @@ where
     requires room { REPLY_ROOM ≤ vec_capacity out.old }
     requires past { IsKeptFor M.step J.opening past.old session.old.seen }
     ensures past { IsKeptFor M.step J.opening past.new session.new.seen }
-    ensures handled { IsHandled M.step J.opening S.least S.answer S.asks S.printing
+    ensures handled { IsHandled M.step J.opening S.least (answering S.answer S.between) S.asks S.printing
         session.old session.new inbox.now out.new.items result }
     ensures capacity { vec_capacity out.old ≤ vec_capacity out.new }
 {
@@ -150,6 +159,10 @@ where
         }
         Asked::Past { at, query } => {
             let request = Request::Past { at, query };
+            ask_session::<R, M, S, J>(rt, alloc, desk, session, past, request, out)
+        }
+        Asked::Between { since, upto, query } => {
+            let request = Request::Between { since, upto, query };
             ask_session::<R, M, S, J>(rt, alloc, desk, session, past, request, out)
         }
     }

@@ -5,6 +5,7 @@ ghost use Rattle.un_publish.specs.declared.session.Denied.{Denied};
 ghost use Rattle.un_exchange.specs.Links.{HasEnded, Proceeds, Serves};
 ghost use Rattle.un_exchange.specs.Writing.{check_end};
 ghost use Rattle.un_exchange.specs.Pages.{check_status};
+ghost use Rattle.un_turns.specs.Served.{answering};
 ghost use Rattle.un_turns.specs.Pasts.{IsKeptFor};
 
 use crate::end::LinkEnd;
@@ -75,7 +76,7 @@ where
     requires printed { REPLY_ROOM ≤ vec_capacity room.old.printed }
     requires past { IsKeptFor M.step J.opening room.old.past session.old.seen }
     ensures past { IsKeptFor M.step J.opening room.new.past session.new.seen }
-    ensures proceeds { Proceeds M.step J.opening S.least S.answer S.asks S.printing
+    ensures proceeds { Proceeds M.step J.opening S.least (answering S.answer S.between) S.asks S.printing
         session.old session.new (L.left link.old) (L.left link.new)
         (L.taken link.old) (L.taken link.new) room.old.inbox.held room.new.inbox.held result }
     ensures head { vec_capacity room.old.head ≤ vec_capacity room.new.head }
@@ -130,7 +131,7 @@ where
     requires printed { REPLY_ROOM ≤ vec_capacity room.old.printed }
     requires empty { room.old.inbox.held ≡ [] }
     requires past { IsKeptFor M.step J.opening room.old.past session.old.seen }
-    ensures served { HasEnded M.step J.opening S.least S.answer S.asks S.printing
+    ensures served { HasEnded M.step J.opening S.least (answering S.answer S.between) S.asks S.printing
         session.old session.new (L.left link.old) (L.left link.new)
         (L.taken link.old) (L.taken link.new) result }
     ensures writes_counted { L.write_faults link.old ≤ L.write_faults link.new }
@@ -178,7 +179,7 @@ pub fn serve_link<R: Wait + Threads + Sync, M: Machine, S: Service<M>, J: BoardN
 ) -> LinkEnd
 where
     Published<M, J>: Snapshot<State = Published<M, J>>,
-    ensures served { Serves M.step J.opening S.least S.answer S.asks S.printing
+    ensures served { Serves M.step J.opening S.least (answering S.answer S.between) S.asks S.printing
         session.old session.new (L.left link.old) (L.left link.new)
         (L.taken link.old) (L.taken link.new) result }
     ensures write_cause { result ≡ LinkEnd.WriteFault

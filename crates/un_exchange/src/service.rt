@@ -16,13 +16,13 @@ pub const REPLY_ROOM: usize = 8_192;
 pub trait Service<M: Machine>: Answers<M> {
     ghost use Rattle.std.specs.Prelude.{ℕ, List};
     ghost use Rattle.un_exchange.specs.declared.asked.Asked.{Asked as AskedOf};
-    ghost use Rattle.un_exchange.specs.Pages.{conflict_page, page};
+    ghost use Rattle.un_exchange.specs.Pages.{conflict_page, page, reversed_page};
     ghost use Rattle.un_exchange.specs.Exchanges.{Printing, CanPrint};
 
     // What a method, a path and a body ask for.
     ghost asks: { List ℕ → List ℕ → List ℕ → AskedOf M.Cmd Self.Query → Type 0 };
 
-    // What replies, answers, past answers and refusals of later versions are printed as.
+    // What replies, answers, past answers and refusals of versions are printed as.
     ghost printing: { Printing M.Reply Self.Answer };
 
     // A reply that fits in the room for it.
@@ -63,6 +63,14 @@ pub trait Service<M: Machine>: Answers<M> {
         requires empty { out.old.items ≡ [] }
         requires room { REPLY_ROOM ≤ vec_capacity out.old }
         ensures page { conflict_page (printing.not_yet ahead.now.seen ahead.now.latest) ≡ conflict_page out.new.items }
+        ensures capacity { vec_capacity out.old ≤ vec_capacity out.new };
+
+    /// Prints the refusal of a query about two versions of which the first comes after the second, whose status is `Unprocessable`. It
+    /// allocates nothing.
+    fn print_reversed(version: u64, since: u64, upto: u64, out: &mut Vec<u8>)
+        requires empty { out.old.items ≡ [] }
+        requires room { REPLY_ROOM ≤ vec_capacity out.old }
+        ensures page { reversed_page (printing.reversed version since upto) ≡ reversed_page out.new.items }
         ensures capacity { vec_capacity out.old ≤ vec_capacity out.new };
 
     /// What an answer is printed as.

@@ -12,6 +12,7 @@ use std::marker::Model;
 use std::sync::Arc;
 use un_defs::{Star, TopoError};
 use un_geom::{Point, Rect};
+use un_pages::Paged;
 use un_points::PointMap;
 
 /// The kept topology. `put` changes it, and none of those that share its pages.
@@ -84,6 +85,13 @@ impl Index {
         ensures { IfOk result (λ errors. errors.items ≡ flat_map errors_of (covered extent self.now)) }
     {
         errors_under(&self.stars, alloc, &extent)
+    }
+
+    /// The stars by their points, sorted by x, then y, then z. It takes no memory.
+    pub fn map(&self) -> &Paged<Point, Star>
+        ensures { result.now ≡ self.now }
+    {
+        self.stars.pairs()
     }
 
     /// An equal topology, which shares all pages.

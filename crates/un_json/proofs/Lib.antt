@@ -6,3 +6,4 @@ pub mod Conditions
 pub mod RuleForms
 pub mod Labels
 pub mod Texts
+pub mod Points

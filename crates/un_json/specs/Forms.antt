@@ -4,6 +4,7 @@ use Rattle.std.specs.List.{list_all}
 use Rattle.std.specs.Str.{bytes_eq}
 use Rattle.serde_json.specs.Data.{Data, null, boolean, number, string, array, object, Items, no_items, item, Members, no_members, member}
 use Rattle.serde_json.specs.Find.{as_str, as_null, as_number, as_u64, as_i64, as_array, as_object}
+use Rattle.un_geom.specs.declared.point.Point.{Point}
 use Rattle.un_geom.specs.Rectangle.{Rectangle, rectangle}
 use Rattle.un_geom.specs.Places.{in_range}
 use Rattle.un_schema.specs.Names.{is_name}
@@ -47,6 +48,10 @@ id_of = count_from_to 1 9007199254740991
 abbrev pub base_of : Data → Option ℕ
 base_of = count_from_to 0 9007199254740991
 
+-- how many changes are asked for
+abbrev pub most_of : Data → Option ℕ
+most_of = count_from_to 1 1000
+
 -- a terminal
 abbrev pub terminal_of : Data → Option ℕ
 terminal_of = count_from_to 1 8
@@ -58,9 +63,13 @@ name_of d = kept is_name (as_str d)
 abbrev pub some_name_of : Data → Option (Option (List ℕ))
 some_name_of d = option_map Some (name_of d)
 
+-- a value of a form, or null for none
+abbrev pub or_null : {A : Type 0} → (Data → Option A) → Data → Option (Option A)
+or_null form d = if is_some (as_null d) then Some None else option_map Some (form d)
+
 -- a name, or null for none
 abbrev pub weight_of : Data → Option (Option (List ℕ))
-weight_of d = if is_some (as_null d) then Some None else some_name_of d
+weight_of = or_null name_of
 
 -- a text of at most 256 bytes
 abbrev pub note_of : Data → Option (List ℕ)
@@ -98,6 +107,14 @@ numbers_of n d = kept (λ xs. length xs == n) (list_of whole d)
 -- a list of lists of three whole numbers
 abbrev pub points_of : Data → Option (List (List ℤ))
 points_of = list_of (numbers_of 3)
+
+-- three numbers in the range of coordinates, as a point
+abbrev pub point_from : List ℤ → Option Point
+point_from (x ∷ y ∷ z ∷ []) = if list_all in_range (x ∷ y ∷ z ∷ []) then Some (record { x = x; y = y; z = z }) else None
+point_from other = None
+
+abbrev pub point_of : Data → Option Point
+point_of d = option_and_then point_from (numbers_of 3 d)
 
 -- four numbers in the range of coordinates, none of the two pairs reversed, as a rectangle
 abbrev pub rectangle_of : List ℤ → Option Rectangle

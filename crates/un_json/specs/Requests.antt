@@ -12,17 +12,18 @@ use Rattle.un_ask.specs.declared.reply.Reply.{Reply}
 use Rattle.un_ask.specs.declared.reply.Reply.TheVariants.{Refused}
 use Rattle.un_defs.specs.declared.refusal.Refusal.TheVariants as refusal
 use Rattle.un_json.specs.declared.words.Word.{Word}
-use Rattle.un_json.specs.declared.words.Word.TheVariants.{Do, Ask, Past}
+use Rattle.un_json.specs.declared.words.Word.TheVariants.{Do, Ask, Past, Changes}
 use Rattle.un_json.specs.declared.fault.ReadFault.{ReadFault}
 use Rattle.un_json.specs.declared.fault.ReadFault.TheVariants.{NotJson, BadRequest, Memory}
 use Rattle.un_json.specs.Rows.{mapped, and_then}
 use Rattle.un_json.specs.Words.{word_of}
-use Rattle.un_json.specs.Table.{command_answer, query_answer, past_answer}
+use Rattle.un_json.specs.Table.{command_answer, query_answer, past_answer, changes_answer}
 
 abbrev pub answer_to : Word → Data → Result Request Place
 answer_to (Do w) d = mapped request.Command (command_answer w d)
 answer_to (Ask w) d = mapped request.Query (query_answer w d)
 answer_to Past d = mapped request.Past (past_answer d)
+answer_to Changes d = mapped request.Changes (changes_answer d)
 
 -- the request that a value is, or the first place that is bad
 abbrev pub request_of : Data → Result Request Place

@@ -17,7 +17,9 @@ use Rattle.un_ask.specs.declared.word.EditWord.TheVariants as word
 use Rattle.un_ask.specs.declared.request.Command.{Command}
 use Rattle.un_ask.specs.declared.request.Command.TheVariants as command
 use Rattle.un_ask.specs.declared.query.Query.{Query}
+use Rattle.un_geom.specs.declared.point.Point.{Point}
 use Rattle.un_ask.specs.declared.query.PastQuery.{PastQuery}
+use Rattle.un_ask.specs.declared.query.ChangesQuery.{ChangesQuery}
 use Rattle.un_ask.specs.declared.query.Asked.{Asked}
 use Rattle.un_ask.specs.declared.query.Asked.TheVariants as asked
 use Rattle.un_ask.specs.declared.trace.TraceKind.{TraceKind}
@@ -28,14 +30,14 @@ use Rattle.un_ask.specs.declared.results.Label.{Label}
 use Rattle.un_ask.specs.Batches.{is_batch}
 use Rattle.un_ask.specs.Words.{edit_named}
 use Rattle.un_json.specs.declared.words.Word.{Word}
-use Rattle.un_json.specs.declared.words.Word.TheVariants.{Do, Ask, Past}
+use Rattle.un_json.specs.declared.words.Word.TheVariants.{Do, Ask, Past, Changes}
 use Rattle.un_json.specs.declared.words.CommandWord.{CommandWord}
 use Rattle.un_json.specs.declared.words.CommandWord.TheVariants as does
 use Rattle.un_json.specs.declared.words.QueryWord.{QueryWord}
 use Rattle.un_json.specs.declared.words.QueryWord.TheVariants as asks
 use Rattle.un_json.specs.Rows.{Row, makes, ◌&◌, required, optional, required_when, optional_when, required_member, answers, mapped, and_then}
 use Rattle.un_json.specs.Words.{word_of}
-use Rattle.un_json.specs.Forms.{kept, id_of, base_of, name_of, some_name_of, weight_of, points_of, attrs_of, flow_of, ends_of, note_of, port_of, terminal_of, list_of, extent_of, rule_of, starts_of, stops_of, nodes_of, labels_of, kind_of, condition_of, some_condition_of, barriers_of, include_of, functions_of, nothing}
+use Rattle.un_json.specs.Forms.{kept, id_of, base_of, name_of, some_name_of, weight_of, points_of, attrs_of, flow_of, ends_of, note_of, port_of, terminal_of, list_of, extent_of, rule_of, starts_of, stops_of, nodes_of, labels_of, kind_of, condition_of, some_condition_of, barriers_of, include_of, functions_of, nothing, or_null, point_of, most_of}
 
 -- ---- edits
 
@@ -239,11 +241,12 @@ query_answer asks.Diagram d = answers place.Ask diagram d
 
 -- ---- queries at past versions
 
--- the query that an object is by its word, which is no command and asks nothing at a past version
+-- the query that an object is by its word, which is no command and asks neither at a past version nor for changes
 abbrev pub nested_answer : Word → Data → Result Query Place
 nested_answer (Ask w) d = query_answer w d
 nested_answer (Do w) d = Err place.Ask
 nested_answer Past d = Err place.Ask
+nested_answer Changes d = Err place.Ask
 
 -- what a request asks that is such a query and has no member `seen`
 abbrev pub nested_of : Data → Option Asked
@@ -259,3 +262,16 @@ past = makes past_query & required place.At base_of & required place.Query neste
 
 abbrev pub past_answer : Data → Result PastQuery Place
 past_answer d = answers place.Ask past d
+
+-- ---- queries for changes
+
+abbrev pub changes_query : ℕ → Option ℕ → Option Point → ℕ → ℕ → ChangesQuery
+changes_query since upto after most seen = record { seen = seen; since = since; upto = upto; after = after; most = most }
+
+abbrev pub changes : Row ChangesQuery
+changes =
+    makes changes_query & required place.Since base_of & optional place.Upto (or_null base_of) None
+    & optional place.After (or_null point_of) None & optional place.Most most_of 500 & optional place.Seen base_of 0
+
+abbrev pub changes_answer : Data → Result ChangesQuery Place
+changes_answer d = answers place.Ask changes d

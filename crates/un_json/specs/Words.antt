@@ -9,7 +9,7 @@ use Rattle.un_schema.specs.declared.place.Place.TheVariants as place
 use Rattle.un_schema.specs.Places.{place_text}
 use Rattle.un_ask.specs.Words.{edit_named}
 use Rattle.un_json.specs.declared.words.Word.{Word}
-use Rattle.un_json.specs.declared.words.Word.TheVariants.{Do, Ask, Past}
+use Rattle.un_json.specs.declared.words.Word.TheVariants.{Do, Ask, Past, Changes}
 use Rattle.un_json.specs.declared.words.CommandWord.{CommandWord}
 use Rattle.un_json.specs.declared.words.CommandWord.TheVariants as does
 use Rattle.un_json.specs.declared.words.QueryWord.{QueryWord}
@@ -38,9 +38,11 @@ query_named text =
     else (if bytes_eq text (codes "check") then Some asks.Check
     else (if bytes_eq text (codes "diagram") then Some asks.Diagram else None))))))))
 
--- a query, or a query at a past version
+-- a query, a query at a past version, or one for changes
 abbrev pub question_named : List ℕ → Option Word
-question_named text = if bytes_eq text (codes "past") then Some Past else option_map Ask (query_named text)
+question_named text =
+    if bytes_eq text (codes "past") then Some Past
+    else (if bytes_eq text (codes "changes") then Some Changes else option_map Ask (query_named text))
 
 abbrev pub command_word_of : Data → Result Word Place
 command_word_of d = mapped Do (or_blame place.Do (option_and_then command_named (as_str d)))

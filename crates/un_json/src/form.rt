@@ -6,6 +6,7 @@ ghost use Rattle.serde_json.specs.View.{members_view};
 use crate::fault::ReadFault;
 use serde_json::{Map, Value};
 use std::alloc::{AllocError, Global};
+use std::marker::PhantomData;
 use un_schema::Place;
 
 /// A form that a member's value may have.
@@ -21,13 +22,32 @@ pub trait Form {
         ensures { IfOk result (λ out. out ≡ form (view value.now)) };
 }
 
+/// A value of another form, or null for none.
+pub struct OrNull<F> {
+    of: PhantomData<F>,
+}
+
+impl<F: Form> Form for OrNull<F> {
+    ghost use Rattle.un_json.specs.Forms.{or_null};
+
+    type Out = Option<F::Out>;
+
+    ghost form = { or_null F.form };
+
+    fn read(alloc: Global, value: &Value) -> Result<Option<Option<F::Out>>, AllocError> {
+        if value.is_null() {
+            return Ok(Some(None));
+        }
+        match F::read(alloc, value)? {
+            Some(out) => Ok(Some(Some(out))),
+            None => Ok(None),
+        }
+    }
+}
+
 /// The value of a member that must be there.
 #[tactic(auto, unfolding(crate::specs::Rows::required_member))]
-pub(crate) fn required<F: Form>(
-    alloc: Global,
-    object: &Value,
-    place: Place,
-) -> Result<F::Out, ReadFault>
+pub fn required<F: Form>(alloc: Global, object: &Value, place: Place) -> Result<F::Out, ReadFault>
     ensures ok { IfOk result (λ out. required_member place F.form (view object.now) ≡ Ok out) }
     ensures err { IfErr result (λ e. Blames e (required_member place F.form (view object.now))) }
 {
@@ -42,7 +62,7 @@ pub(crate) fn required<F: Form>(
 
 /// The value of a member that may be absent, and is the default then.
 #[tactic(auto, unfolding(crate::specs::Rows::optional_member))]
-pub(crate) fn optional<F: Form>(
+pub fn optional<F: Form>(
     alloc: Global,
     object: &Value,
     place: Place,
@@ -62,7 +82,7 @@ pub(crate) fn optional<F: Form>(
 
 /// The value of a member that must be there where it is taken; where it is not, the other value.
 #[tactic(auto, unfolding(crate::specs::Rows::required_member_when))]
-pub(crate) fn required_when<F: Form>(
+pub fn required_when<F: Form>(
     taken: bool,
     alloc: Global,
     object: &Value,
@@ -83,7 +103,7 @@ pub(crate) fn required_when<F: Form>(
 
 /// The value of a member that may be absent, where it is taken; the default in every other case.
 #[tactic(auto, unfolding(crate::specs::Rows::optional_member_when))]
-pub(crate) fn optional_when<F: Form>(
+pub fn optional_when<F: Form>(
     taken: bool,
     alloc: Global,
     object: &Value,
@@ -104,7 +124,7 @@ pub(crate) fn optional_when<F: Form>(
 
 /// Refuses an object that has a member with another name than these.
 #[tactic(auto, unfolding(crate::specs::Rows::no_others))]
-pub(crate) fn no_others(object: &Value, places: &[Place]) -> Result<(), ReadFault>
+pub fn no_others(object: &Value, places: &[Place]) -> Result<(), ReadFault>
     ensures ok { OnOk result (no_others places.now (view object.now) ≡ Ok tt) }
     ensures err { IfErr result (λ e. Blames e (no_others places.now (view object.now))) }
 {

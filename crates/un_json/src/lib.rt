@@ -3,6 +3,7 @@
 
 mod attrs;
 mod certificate;
+mod changes;
 mod command;
 pub mod condition;
 mod diagram;

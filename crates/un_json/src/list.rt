@@ -1,7 +1,8 @@
 //! Forms of lists.
-ghost use Rattle.std.specs.Prelude.{◌≡◌, [], IfOk, option_map};
+ghost use Rattle.std.specs.Prelude.{◌≡◌, [], ◌∷◌, None, Some, IfOk, option_map, if◌then◌else◌};
+ghost use Rattle.un_geom.specs.Places.{in_range};
 ghost use Rattle.serde_json.specs.View.{view, items_view};
-ghost use Rattle.un_json.specs.Forms.{each_item, list_of, list_from_to, numbers_of, extent_of, ends_of, port_of};
+ghost use Rattle.un_json.specs.Forms.{each_item, list_of, list_from_to, numbers_of, point_from, point_of, extent_of, ends_of, port_of};
 
 use crate::form::Form;
 use crate::scalar::{number_of, small_from_to};
@@ -9,7 +10,8 @@ use serde_json::Value;
 use std::alloc::{AllocError, Global};
 use un_defs::Port;
 use un_defs::port::Ports;
-use un_geom::{Rect, Triples};
+use un_geom::point::LIMIT;
+use un_geom::{Point, Rect, Triples};
 
 /// The values read by the form, if all of them have it.
 #[tactic(auto, using(crate::proofs::Items::read_on, crate::proofs::Items::read_none, crate::proofs::Items::read_all))]
@@ -77,6 +79,52 @@ impl Form for Triple {
 
     fn read(_alloc: Global, value: &Value) -> Result<Option<[i64; 3]>, AllocError> {
         Ok(read_triple(value))
+    }
+}
+
+/// A coordinate, if the number is in their range.
+fn coordinate(n: i64) -> Option<i32>
+    ensures { result ≡ (if in_range n then Some n else None) }
+{
+    if -LIMIT <= n && n <= LIMIT {
+        Some(n as i32)
+    } else {
+        None
+    }
+}
+
+// The point with these coordinates, if they are in their range.
+#[tactic(auto, using(crate::proofs::Points::all_placed, crate::proofs::Points::first_off, crate::proofs::Points::second_off, crate::proofs::Points::third_off))]
+fn placed(x: i64, y: i64, z: i64) -> Option<Point>
+    ensures { result ≡ point_from (x ∷ y ∷ z ∷ []) }
+{
+    Some(Point {
+        x: coordinate(x)?,
+        y: coordinate(y)?,
+        z: coordinate(z)?,
+    })
+}
+
+/// A point in the range of coordinates.
+pub fn read_point(value: &Value) -> Option<Point>
+    ensures { result ≡ point_of (view value.now) }
+{
+    let [x, y, z] = read_triple(value)?;
+    placed(x, y, z)
+}
+
+/// A point in the range of coordinates.
+pub struct PointForm;
+
+impl Form for PointForm {
+    ghost use Rattle.un_json.specs.Forms.{point_of};
+
+    type Out = Point;
+
+    ghost form = { point_of };
+
+    fn read(_alloc: Global, value: &Value) -> Result<Option<Point>, AllocError> {
+        Ok(read_point(value))
     }
 }
 

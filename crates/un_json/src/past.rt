@@ -66,5 +66,6 @@ fn read_by_word(alloc: Global, value: &Value) -> Result<Query, ReadFault>
         Word::Ask(word) => read_query(alloc, word, value),
         Word::Do(_) => Err(ReadFault::BadRequest { place: Place::Ask }),
         Word::Past => Err(ReadFault::BadRequest { place: Place::Ask }),
+        Word::Changes => Err(ReadFault::BadRequest { place: Place::Ask }),
     }
 }

@@ -12,6 +12,7 @@ ghost use Rattle.un_json.specs.Rows.{Blames};
 ghost use Rattle.un_json.specs.Words.{word_of};
 ghost use Rattle.un_json.specs.Requests.{answer_to, request_of, json_of, ask};
 
+use crate::changes::read_changes;
 use crate::command::read_command;
 use crate::fault::ReadFault;
 use crate::past::read_past;
@@ -74,6 +75,10 @@ fn answer(alloc: Global, word: Word, object: &Value) -> Result<Request, ReadFaul
         Word::Past => {
             let past = read_past(alloc, object)?;
             Ok(Request::Past(past))
+        }
+        Word::Changes => {
+            let query = read_changes(alloc, object)?;
+            Ok(Request::Changes(query))
         }
     }
 }

@@ -3,7 +3,7 @@ ghost use Rattle.std.specs.Prelude.{◌≡◌};
 ghost use Rattle.serde_json.specs.View.{view};
 ghost use Rattle.un_json.specs.Forms.{count_from_to, id_of, flow_named, inclusion_named};
 
-use crate::form::Form;
+use crate::form::{Form, OrNull};
 use crate::words::Inclusion;
 use serde_json::Value;
 use std::alloc::{AllocError, Global};
@@ -31,14 +31,14 @@ pub fn small_from_to(low: u8, high: u8, value: &Value) -> Option<u8>
 }
 
 /// The number of a feature or of an association.
-pub(crate) fn number_of(value: &Value) -> Option<u64>
+pub fn number_of(value: &Value) -> Option<u64>
     ensures { result ≡ id_of (view value.now) }
 {
     count_from_to(1, GREATEST_ID, value)
 }
 
 /// A number of a feature or of an association.
-pub(crate) struct Id;
+pub struct Id;
 
 impl Form for Id {
     ghost use Rattle.un_json.specs.Forms.{id_of};
@@ -53,7 +53,7 @@ impl Form for Id {
 }
 
 /// A moment or a version.
-pub(crate) struct Base;
+pub struct Base;
 
 impl Form for Base {
     ghost use Rattle.un_json.specs.Forms.{base_of};
@@ -83,7 +83,7 @@ impl Form for Terminal {
 }
 
 /// True or false.
-pub(crate) struct Truth;
+pub struct Truth;
 
 impl Form for Truth {
     ghost use Rattle.serde_json.specs.Find.{as_bool};
@@ -98,7 +98,7 @@ impl Form for Truth {
 }
 
 /// A name.
-pub(crate) struct Named;
+pub struct Named;
 
 impl Form for Named {
     ghost use Rattle.un_json.specs.Forms.{name_of};
@@ -137,22 +137,7 @@ impl Form for SomeName {
 }
 
 /// The attribute that a segment costs: a name, or null for none.
-pub(crate) struct Weight;
-
-impl Form for Weight {
-    ghost use Rattle.un_json.specs.Forms.{weight_of};
-
-    type Out = Option<Name>;
-
-    ghost form = { weight_of };
-
-    fn read(alloc: Global, value: &Value) -> Result<Option<Option<Name>>, AllocError> {
-        if value.is_null() {
-            return Ok(Some(None));
-        }
-        SomeName::read(alloc, value)
-    }
-}
+pub(crate) type Weight = OrNull<Named>;
 
 /// A note.
 pub(crate) struct Noted;

@@ -15,6 +15,8 @@ pub(crate) enum Word {
     Ask(QueryWord),
     /// The word of a query at a past version, which holds another query.
     Past,
+    /// The word of a query for changes.
+    Changes,
 }
 
 #[derive(Clone, Copy, Debug, PartialEq, Eq)]
@@ -112,12 +114,15 @@ fn whole_command_named(text: &str) -> Option<CommandWord>
     }
 }
 
-/// A query, or a query at a past version.
+/// A query, a query at a past version, or one for changes.
 fn question_named(text: &str) -> Option<Word>
     ensures { result ≡ question_named text.now }
 {
     if text == "past" {
         return Some(Word::Past);
+    }
+    if text == "changes" {
+        return Some(Word::Changes);
     }
     match query_named(text) {
         Some(word) => Some(Word::Ask(word)),

@@ -3,6 +3,7 @@
 use std::alloc::{AllocError, Global};
 use un_json::{ReadFault, read_request};
 
+mod changes;
 mod commands;
 mod diagrams;
 mod edits;

@@ -117,6 +117,13 @@ impl<V: Drop> PointMap<V> {
         })
     }
 
+    /// The pairs by their points, sorted by x, then y, then z. It takes no memory.
+    pub fn pairs(&self) -> &Paged<Point, V>
+        ensures { result.now ≡ self.now }
+    {
+        &self.pairs
+    }
+
     /// The first pair past the point, or of all, whose point the rectangle covers.
     pub fn next_under(&self, extent: &Rect, after: Option<Point>) -> Option<(Point, &Arc<V>)>
         ensures rest { IfSome result (λ e. covered_past extent.now after self.now

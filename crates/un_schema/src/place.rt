@@ -53,6 +53,14 @@ pub enum Place {
     Keep,
     At,
     Query,
+    Since,
+    Upto,
+    After,
+    Most,
+    Changes,
+    More,
+    Ok,
+    Version,
 }
 
 impl Place {
@@ -113,6 +121,14 @@ impl Place {
             Place::Keep => "keep",
             Place::At => "at",
             Place::Query => "query",
+            Place::Since => "since",
+            Place::Upto => "upto",
+            Place::After => "after",
+            Place::Most => "most",
+            Place::Changes => "changes",
+            Place::More => "more",
+            Place::Ok => "ok",
+            Place::Version => "version",
         }
     }
 }

@@ -10,7 +10,7 @@ use Rattle.un_desk.specs.declared.desk.ViewFault.TheVariants.{Ahead, Denied as N
 use Rattle.un_desk.specs.declared.past.PastFault.{PastFault}
 use Rattle.un_desk.specs.declared.past.PastFault.TheVariants.{Ahead as PastAhead, Denied as PastDenied, Memory as PastMemory}
 use Rattle.un_desk.specs.Pasts.{IsPastFault}
-use Rattle.un_turns.specs.Turns.{Turn, Passed, Decided, Undecided, Unprepared, Answered, Unanswered, Recalled, Unread, Unrecalled, IsTurn, IsAnswered, IsUnanswered}
+use Rattle.un_turns.specs.Turns.{Turn, Passed, Decided, Undecided, Unprepared, Answered, Unanswered, Recalled, Unread, Unrecalled, Compared, Reversed, UnreadSpan, Uncompared, IsTurn, IsAnswered, IsUnanswered, IsRecalled}
 use Rattle.un_turns.specs.Conversations.{denials_of, denials, past_denials, view_denials, DenialLaw}
 
 -- a count after none or one more
@@ -56,6 +56,9 @@ module _ {M C R H K : Type 0} (step : M → C → (M × (R × K)) ⊎ R) (openin
   unanswered_denied s t n NoMemory (inl (Memory, e, r, p)) = inl (refl, of r)
   unanswered_denied s t n NoMemory (inr (m, o, v, p)) = inl (refl, of v ∙ of o.read.kept)
 
+  recalled_denied : (s t : SessionModel M C R H K) (n at : ℕ) (v w : View M) → IsRecalled step opening s t n at v w → t.denied ≡ s.denied
+  recalled_denied s t n at v w h = of h.past.kept ∙ answered_denied s h.between n v h.first
+
 module _ {M C R H K Q : Type 0} (step : M → C → (M × (R × K)) ⊎ R) (opening : List M) (least : Q → ℕ) where
   turn_denied : (s t : SessionModel M C R H K) (u : Turn M C R H K Q) → IsTurn step opening least s u t → Counts (denials_of u) s.denied t.denied
   turn_denied s t Passed h = inl (refl, of h)
@@ -72,10 +75,18 @@ module _ {M C R H K Q : Type 0} (step : M → C → (M × (R × K)) ⊎ R) (open
   turn_denied s t (Answered query v) h =
       inl (refl, answered_denied step opening s t (least query) v h)
   turn_denied s t (Unanswered query f) h = unanswered_denied step opening s t (least query) f h
-  turn_denied s t (Recalled query at v w) h = inl (refl, of h.past.kept ∙ answered_denied step opening s h.between (least query) v h.first)
+  turn_denied s t (Recalled query at v w) h = inl (refl, recalled_denied step opening s t (least query) at v w h)
   turn_denied s t (Unread query at f) h = unanswered_denied step opening s t (least query) f h
   turn_denied s t (Unrecalled query at f) h =
       subst (λ (k : ℕ). Counts (past_denials f) k t.denied) (answered_denied step opening s h.between (least query) h.view h.first) (past_denied h.between t at f h.fault)
+  turn_denied s t (Compared query since upto v old new) h = inl (refl, of h.newer.kept ∙ recalled_denied step opening s h.between (least query) since v old h.older)
+  turn_denied s t (Reversed query since upto v old) h = inl (refl, recalled_denied step opening s t (least query) since v old h.older)
+  turn_denied s t (UnreadSpan query since upto f) h = unanswered_denied step opening s t (least query) f h
+  turn_denied s t (Uncompared query since upto at f) h =
+      elim h as (λ _. Counts (past_denials f) s.denied t.denied) [
+        | inl u ↦ subst (λ (k : ℕ). Counts (past_denials f) k t.denied) (answered_denied step opening s u.1.between (least query) u.1.view u.1.first) (past_denied u.1.between t since f u.1.fault)
+        | inr u ↦ subst (λ (k : ℕ). Counts (past_denials f) k t.denied) (recalled_denied step opening s u.between (least query) since u.view u.old u.older) (past_denied u.between t at f u.fault)
+      ]
 
   pub denials_counted : DenialLaw H step opening least
   denials_counted s t [] lt h = let e = of h in omega (arith, e, lt)

@@ -1,5 +1,5 @@
 -- What turns report is true of the entries that the session has seen in the end.
-use Rattle.std.proofs.Common.{◌≡◌, ◌⊎◌, ◌≤◌, ℕ, true, false, List, [], ◌∷◌, length, take, refl, ap, sym, ◌∙◌, subst, inl, inr, arith}
+use Rattle.std.proofs.Common.{◌≡◌, ◌⊎◌, ◌≤◌, ◌<◌, ℕ, true, false, Option, None, Some, List, [], ◌∷◌, length, take, refl, ap, sym, ◌∙◌, subst, inl, inr, arith}
 use Rattle.std.specs.Arc.{arc_value}
 use Rattle.std.proofs.lemmas.List.{take-append-le, take_all, length-take}
 use mathlib.Core.List.{IsPrefix}
@@ -16,9 +16,9 @@ use Rattle.un_desk.specs.declared.desk.ViewFault.{ViewFault}
 use Rattle.un_desk.specs.declared.desk.ViewFault.TheVariants.{Ahead, Denied as NotTaught, Memory as NoMemory}
 use Rattle.un_desk.specs.declared.past.PastFault.{PastFault}
 use Rattle.un_desk.specs.declared.past.PastFault.TheVariants.{Ahead as PastAhead, Denied as PastDenied, Memory as PastMemory}
-use Rattle.un_turns.specs.Turns.{Turn, Passed, Decided, Undecided, Unprepared, Answered, Unanswered, Recalled, Unread, Unrecalled, IsTurn, IsRead, IsAnswered, IsUnanswered, IsUnrecalled}
-use Rattle.un_turns.specs.Conversations.{Conversed, IsDecidedAt, IsLastEntry, IsAheadOf, IsNotYet, IsTrueTurn, AreTrueTurns, TrueTurnsLaw}
-use Rattle.un_turns.proofs.Turning.{turn_number, all_seen, recalled_seen}
+use Rattle.un_turns.specs.Turns.{Turn, Passed, Decided, Undecided, Unprepared, Answered, Unanswered, Recalled, Unread, Unrecalled, Compared, Reversed, UnreadSpan, Uncompared, end_of, IsTurn, IsRead, IsAnswered, IsUnanswered, IsUnrecalled, IsCompared, IsReversed, IsUncompared, IsUnreached}
+use Rattle.un_turns.specs.Conversations.{Conversed, IsDecidedAt, IsLastEntry, IsAheadOf, IsNotYet, IsNotReached, IsTrueTurn, AreTrueTurns, TrueTurnsLaw}
+use Rattle.un_turns.proofs.Turning.{turn_number, all_seen, recalled_seen, compared_seen}
 
 take_prefix : {A : Type 0} (n : ℕ) (xs ys : List A) → IsPrefix xs ys → n ≤ length xs → take n ys ≡ take n xs
 take_prefix n xs ys p le = ap (λ l. take n l) (sym p.1) ∙ take-append-le n xs p.0 le
@@ -36,6 +36,16 @@ not_yet_longer : (n k l : ℕ) (f : PastFault) → k ≤ l → IsNotYet n k f �
 not_yet_longer n k l (PastAhead a) le h = (h.0, omega (arith, h.1, le), h.2)
 not_yet_longer n k l (PastDenied d) le h = tt
 not_yet_longer n k l PastMemory le h = tt
+
+not_reached_longer : (since : ℕ) (upto : Option ℕ) (n k l : ℕ) (f : PastFault) → k ≤ l → IsNotReached since upto n k f → IsNotReached since upto n l f
+not_reached_longer since upto n k l (PastAhead a) le h = (h.0, h.1, omega (arith, h.2, le), h.3)
+not_reached_longer since upto n k l (PastDenied d) le h = tt
+not_reached_longer since upto n k l PastMemory le h = tt
+
+-- a second version that was not reached was asked for: that of a view has been seen
+asked_for : (upto : Option ℕ) (v at seen : ℕ) → v ≤ seen → at ≡ end_of upto v → seen < at → upto ≡ Some at
+asked_for None v at seen le e lt = absurd (omega (arith, le, e, lt))
+asked_for (Some u) v at seen le e lt = ap Some (sym e)
 
 module _ {M C R H K : Type 0} (step : M → C → (M × (R × K)) ⊎ R) (opening : List M) where
   decided_holds : (s t : SessionModel M C R H K) (cmd : C) (r : Receipt M C R H K) → IsSubmitted step opening s t cmd r
@@ -65,7 +75,7 @@ module _ {M C R H K : Type 0} (step : M → C → (M × (R × K)) ⊎ R) (openin
     subst (λ (l : List (Entry M C R H K)). Reaches step opening l (arc_value v.state)) (sym (take_whole v.version t.seen r.version)) r.reaches,
   )
 
-  answered_holds : (s t : SessionModel M C R H K) (n : ℕ) (v : View M) → IsAnswered step opening s t n v
+  pub answered_holds : (s t : SessionModel M C R H K) (n : ℕ) (v : View M) → IsAnswered step opening s t n v
       → (n ≤ v.version) × (v.version ≤ length t.seen) × Reaches step opening (take v.version t.seen) (arc_value v.state)
   answered_holds s t n v h =
       let facts : (v.version ≤ length t.seen) × Reaches step opening (take v.version t.seen) (arc_value v.state) =
@@ -87,6 +97,28 @@ module _ {M C R H K : Type 0} (step : M → C → (M × (R × K)) ⊎ R) (openin
   unrecalled_holds s t n at PastMemory h = tt
   unrecalled_holds s t n at (PastAhead a) h = let v = h.fault in (v.0.0, omega (arith, v.0.1), omega (arith, v.0.1, v.0.2))
 
+  pub compared_holds : (s t : SessionModel M C R H K) (n since : ℕ) (upto : Option ℕ) (v old new : View M) → IsCompared step opening s t n since upto v old new
+      → Reaches step opening (take since t.seen) (arc_value old.state)
+  compared_holds s t n since upto v old new h =
+      subst (λ (l : List (Entry M C R H K)). Reaches step opening l (arc_value old.state)) (sym (take_prefix since h.between.seen t.seen h.newer.seen h.older.past.after.0)) h.older.past.after.1
+
+  unreached_holds : (s t : SessionModel M C R H K) (n since : ℕ) (upto : Option ℕ) (at : ℕ) (f : PastFault) → IsUnreached step opening s t n since upto at f → IsNotReached since upto at (length t.seen) f
+  unreached_holds s t n since upto at (PastDenied d) h = tt
+  unreached_holds s t n since upto at PastMemory h = tt
+  unreached_holds s t n since upto at (PastAhead a) h =
+      let v = h.fault in
+      let seen = recalled_seen step opening s h.between n since h.view h.old h.older in
+      let more = prefix_length h.between.seen t.seen h.seen in
+      (inr (asked_for upto h.view.version at (length t.seen) (omega (arith, seen.1, more)) h.is_end v.0.2), v.0.0, omega (arith, v.0.1), omega (arith, v.0.1, v.0.2))
+
+  pub uncompared_holds : (s t : SessionModel M C R H K) (n since : ℕ) (upto : Option ℕ) (at : ℕ) (f : PastFault) → IsUncompared step opening s t n since upto at f → IsNotReached since upto at (length t.seen) f
+  uncompared_holds s t n since upto at f (inr h) = unreached_holds s t n since upto at f h
+  uncompared_holds s t n since upto at (PastDenied d) (inl h) = tt
+  uncompared_holds s t n since upto at PastMemory (inl h) = tt
+  uncompared_holds s t n since upto at (PastAhead a) (inl h) =
+      let v = h.1.fault in
+      (inl h.0, v.0.0 ∙ sym h.0, omega (arith, v.0.1), omega (arith, v.0.1, v.0.2, h.0))
+
 module _ {M C R H K Q : Type 0} (step : M → C → (M × (R × K)) ⊎ R) (opening : List M) (least : Q → ℕ) where
   turn_holds : (s t : SessionModel M C R H K) (u : Turn M C R H K Q) → IsTurn step opening least s u t → IsTrueTurn step opening least s.number t.seen u
   turn_holds s t Passed h = tt
@@ -100,6 +132,14 @@ module _ {M C R H K Q : Type 0} (step : M → C → (M × (R × K)) ⊎ R) (open
       (h.first.0, r.1, h.past.version, r.2, h.past.after.1)
   turn_holds s t (Unread query at f) h = unanswered_holds step opening s t (least query) f h
   turn_holds s t (Unrecalled query at f) h = unrecalled_holds step opening s t (least query) at f h
+  turn_holds s t (Compared query since upto v old new) h =
+      let r = compared_seen step opening s t (least query) since upto v old new h in
+      (h.older.first.0, r.1, h.order, r.3, compared_holds step opening s t (least query) since upto v old new h, h.newer.after.1)
+  turn_holds s t (Reversed query since upto v old) h =
+      let r = recalled_seen step opening s t (least query) since v old h.older in
+      (h.older.first.0, r.1, h.order)
+  turn_holds s t (UnreadSpan query since upto f) h = unanswered_holds step opening s t (least query) f h
+  turn_holds s t (Uncompared query since upto at f) h = uncompared_holds step opening s t (least query) since upto at f h
 
   holds_longer : (number : ℕ) (xs ys : List (Entry M C R H K)) (u : Turn M C R H K Q) → IsPrefix xs ys → IsTrueTurn step opening least number xs u → IsTrueTurn step opening least number ys u
   holds_longer number xs ys Passed p h = tt
@@ -117,6 +157,19 @@ module _ {M C R H K Q : Type 0} (step : M → C → (M × (R × K)) ⊎ R) (open
       (h.0, omega (arith, h.1, longer), h.2, omega (arith, h.3, longer), subst (λ (l : List (Entry M C R H K)). Reaches step opening l (arc_value w.state)) (sym (take_prefix at xs ys p h.3)) h.4)
   holds_longer number xs ys (Unread query at f) p h = ahead_longer (least query) (length xs) (length ys) f (prefix_length xs ys p) h
   holds_longer number xs ys (Unrecalled query at f) p h = not_yet_longer at (length xs) (length ys) f (prefix_length xs ys p) h
+  holds_longer number xs ys (Compared query since upto v old new) p h =
+      let longer = prefix_length xs ys p in
+      let known : since ≤ length xs = omega (arith, h.2, h.3) in (
+        h.0,
+        omega (arith, h.1, longer),
+        h.2,
+        omega (arith, h.3, longer),
+        subst (λ (l : List (Entry M C R H K)). Reaches step opening l (arc_value old.state)) (sym (take_prefix since xs ys p known)) h.4,
+        subst (λ (l : List (Entry M C R H K)). Reaches step opening l (arc_value new.state)) (sym (take_prefix (end_of upto v.version) xs ys p h.3)) h.5,
+      )
+  holds_longer number xs ys (Reversed query since upto v old) p h = let longer = prefix_length xs ys p in (h.0, omega (arith, h.1, longer), h.2)
+  holds_longer number xs ys (UnreadSpan query since upto f) p h = ahead_longer (least query) (length xs) (length ys) f (prefix_length xs ys p) h
+  holds_longer number xs ys (Uncompared query since upto at f) p h = not_reached_longer since upto at (length xs) (length ys) f (prefix_length xs ys p) h
 
   hold_on : (number : ℕ) (s t : SessionModel M C R H K) (us : List (Turn M C R H K Q)) → s.number ≡ number → Conversed step opening least s us t → AreTrueTurns step opening least number t.seen us
   hold_on number s t [] e h = tt

@@ -8,8 +8,8 @@ use Rattle.un_desk.specs.declared.past.PastFault.TheVariants.{Ahead as BehindPas
 use Rattle.un_turns.specs.declared.request.Request.{Request}
 use Rattle.un_turns.specs.declared.request.Response.{Response}
 use Rattle.un_turns.specs.declared.request.Response.TheVariants.{PastAnswer, Memory}
-use Rattle.un_turns.specs.Turns.{Turn, Passed, Decided, Undecided, Unprepared, Answered, Unanswered, Recalled, Unread, Unrecalled, IsTurn}
-use Rattle.un_turns.specs.Served.{IsServed, IsResponseOf, receipt_response}
+use Rattle.un_turns.specs.Turns.{Turn, Passed, Decided, Undecided, Unprepared, Answered, Unanswered, Recalled, Unread, Unrecalled, Compared, Reversed, UnreadSpan, Uncompared, IsTurn}
+use Rattle.un_turns.specs.Served.{Answering, IsServed, IsResponseOf, receipt_response}
 use Rattle.un_turns.specs.Truths.{LostLaw}
 
 module _ {M C R H K A : Type 0} where
@@ -17,7 +17,7 @@ module _ {M C R H K A : Type 0} where
   not_receipt x r v text true a p e = absurd (cc (p, rw a at e))
   not_receipt x r v text false a p e = absurd (cc (p, rw a at e))
 
-module _ {M C R H K Q A : Type 0} (step : M → C → (M × (R × K)) ⊎ R) (opening : List M) (least : Q → ℕ) (answer : M → Q → A) where
+module _ {M C R H K Q A : Type 0} (step : M → C → (M × (R × K)) ⊎ R) (opening : List M) (least : Q → ℕ) (answer : Answering M Q A) where
   lost_turn : (s t : SessionModel M C R H K) (q : Request C Q) (u : Turn M C R H K Q) (v : ℕ) (text : A) → IsTurn step opening least s u t → IsResponseOf answer q u (PastAnswer v text)
       → IsServed step opening least answer s q Memory t
   lost_turn s t q Passed v text h (inl e) = absurd (cc (e.1))
@@ -42,6 +42,14 @@ module _ {M C R H K Q A : Type 0} (step : M → C → (M × (R × K)) ⊎ R) (op
   lost_turn s t q (Unrecalled query at (BehindPast a)) v text h e = absurd (cc (e.1))
   lost_turn s t q (Unrecalled query at (PastNotTaught d)) v text h e = absurd (cc (e.1))
   lost_turn s t q (Unrecalled query at NoPast) v text h e = absurd (cc (e.1))
+  lost_turn s t q (Compared query since upto first old new) v text h e = absurd (cc (e.1))
+  lost_turn s t q (Reversed query since upto first old) v text h e = absurd (cc (e.1))
+  lost_turn s t q (UnreadSpan query since upto (BehindView a)) v text h e = absurd (cc (e.1))
+  lost_turn s t q (UnreadSpan query since upto (NotTaught d)) v text h e = absurd (cc (e.1))
+  lost_turn s t q (UnreadSpan query since upto NoView) v text h e = absurd (cc (e.1))
+  lost_turn s t q (Uncompared query since upto at (BehindPast a)) v text h e = absurd (cc (e.1))
+  lost_turn s t q (Uncompared query since upto at (PastNotTaught d)) v text h e = absurd (cc (e.1))
+  lost_turn s t q (Uncompared query since upto at NoPast) v text h e = absurd (cc (e.1))
 
   pub past_lost : LostLaw H step opening least answer
   past_lost s t request v text h = lost_turn s t request h.turn v text h.is h.responds

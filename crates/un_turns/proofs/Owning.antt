@@ -12,7 +12,7 @@ use Rattle.un_journal.specs.Books.{entry}
 use Rattle.un_journal.specs.declared.receipt.Receipt.{Receipt}
 use Rattle.un_desk.specs.Desks.{IsSubmitted}
 use Rattle.un_turns.specs.Own.{own_entries, IsWithin}
-use Rattle.un_turns.specs.Turns.{Turn, Passed, Decided, Undecided, Unprepared, Answered, Unanswered, Recalled, Unread, Unrecalled, IsTurn}
+use Rattle.un_turns.specs.Turns.{Turn, Passed, Decided, Undecided, Unprepared, Answered, Unanswered, Recalled, Unread, Unrecalled, Compared, Reversed, UnreadSpan, Uncompared, IsTurn}
 use Rattle.un_turns.specs.Conversations.{Conversed, accepted_by, accepted_of, waits_of, decision, OwnLaw}
 use Rattle.un_turns.proofs.Turning.{IsMove, move, turn_moves}
 
@@ -101,6 +101,10 @@ module _ {M C R H K Q : Type 0} (step : M → C → (M × (R × K)) ⊎ R) (open
   turn_grows s t (Recalled query at u v) w h = grows_none s t (waits_of {M = M} {C = C} {R = R} {H = H} {K = K} least 0 (Recalled query at u v)) (turn_moves step opening least 0 s t (Recalled query at u v) (omega arith) h) w
   turn_grows s t (Unread query at f) w h = grows_none s t (waits_of {M = M} {C = C} {R = R} {H = H} {K = K} least 0 (Unread query at f)) (turn_moves step opening least 0 s t (Unread query at f) (omega arith) h) w
   turn_grows s t (Unrecalled query at f) w h = grows_none s t (waits_of {M = M} {C = C} {R = R} {H = H} {K = K} least 0 (Unrecalled query at f)) (turn_moves step opening least 0 s t (Unrecalled query at f) (omega arith) h) w
+  turn_grows s t (Compared query since upto v old new) w h = grows_none s t (waits_of {M = M} {C = C} {R = R} {H = H} {K = K} least 0 (Compared query since upto v old new)) (turn_moves step opening least 0 s t (Compared query since upto v old new) (omega arith) h) w
+  turn_grows s t (Reversed query since upto v old) w h = grows_none s t (waits_of {M = M} {C = C} {R = R} {H = H} {K = K} least 0 (Reversed query since upto v old)) (turn_moves step opening least 0 s t (Reversed query since upto v old) (omega arith) h) w
+  turn_grows s t (UnreadSpan query since upto f) w h = grows_none s t (waits_of {M = M} {C = C} {R = R} {H = H} {K = K} least 0 (UnreadSpan query since upto f)) (turn_moves step opening least 0 s t (UnreadSpan query since upto f) (omega arith) h) w
+  turn_grows s t (Uncompared query since upto at f) w h = grows_none s t (waits_of {M = M} {C = C} {R = R} {H = H} {K = K} least 0 (Uncompared query since upto at f)) (turn_moves step opening least 0 s t (Uncompared query since upto at f) (omega arith) h) w
 
   pub all_grow : (s t : SessionModel M C R H K) (us : List (Turn M C R H K Q)) → IsWithin s → Conversed step opening least s us t → Grows s t (flat_map accepted_of us)
   all_grow s t [] w h = record {

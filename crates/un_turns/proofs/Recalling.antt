@@ -7,7 +7,7 @@ use Rattle.un_publish.specs.Models.{SessionModel}
 use Rattle.un_turns.specs.declared.request.Request.{Request}
 use Rattle.un_turns.specs.declared.request.Response.{Response}
 use Rattle.un_turns.specs.Pasts.{IsKeptFor}
-use Rattle.un_turns.specs.Served.{IsServed}
+use Rattle.un_turns.specs.Served.{Answering, IsServed}
 use Rattle.un_publish.specs.declared.session.View.{View}
 use Rattle.un_desk.specs.declared.desk.ViewFault.{ViewFault}
 use Rattle.un_turns.specs.Turns.{IsAnswered, IsUnanswered}
@@ -24,6 +24,6 @@ module _ {M C R H K : Type 0} (step : M → C → (M × (R × K)) ⊎ R) (openin
   pub unanswered_seen : (s t : SessionModel M C R H K) (n : ℕ) (f : ViewFault) → IsUnanswered step opening s t n f → IsPrefix s.seen t.seen
   unanswered_seen s t n f h = (unanswered_moves step opening s t 0 n f (omega arith) h).seen
 
-module _ {M C R H K Q A : Type 0} (step : M → C → (M × (R × K)) ⊎ R) (opening : List M) (least : Q → ℕ) (answer : M → Q → A) where
+module _ {M C R H K Q A : Type 0} (step : M → C → (M × (R × K)) ⊎ R) (opening : List M) (least : Q → ℕ) (answer : Answering M Q A) where
   pub served_seen : (s t : SessionModel M C R H K) (q : Request C Q) (r : Response R A) → IsServed step opening least answer s q r t → IsPrefix s.seen t.seen
   served_seen s t q r h = turn_seen step opening least s t h.turn h.is

@@ -11,11 +11,11 @@ use Rattle.un_desk.specs.declared.desk.ViewFault.TheVariants.{Ahead as BehindVie
 use Rattle.un_turns.specs.declared.request.Request.{Request}
 use Rattle.un_turns.specs.declared.request.Request.TheVariants.{Command}
 use Rattle.un_turns.specs.declared.request.Response.{Response}
-use Rattle.un_turns.specs.declared.request.Response.TheVariants.{Nothing, Answer, PastAnswer, Ahead, NotYet, Denied, Memory as NoRoom}
+use Rattle.un_turns.specs.declared.request.Response.TheVariants.{Nothing, Answer, PastAnswer, BetweenAnswer, Reversed, Ahead, NotYet, Denied, Memory as NoRoom}
 use Rattle.un_desk.specs.declared.past.PastFault.{PastFault}
 use Rattle.un_desk.specs.declared.past.PastFault.TheVariants.{Ahead as PastAhead, Denied as PastDenied, Memory as PastMemory}
-use Rattle.un_turns.specs.Turns.{Turn, Passed, Decided, Undecided, Unprepared, Answered, Unanswered, Recalled, Unread, Unrecalled, IsTurn}
-use Rattle.un_turns.specs.Served.{IsResponseOf, IsReplyOf, receipt_response, fault_response, view_response, past_response}
+use Rattle.un_turns.specs.Turns.{Turn, Passed, Decided, Undecided, Unprepared, Answered, Unanswered, Recalled, Unread, Unrecalled, Compared, Reversed as Turned, UnreadSpan, Uncompared, end_of, later_of, IsTurn}
+use Rattle.un_turns.specs.Served.{Answering, span_of, IsResponseOf, IsReplyOf, receipt_response, fault_response, view_response, past_response}
 use Rattle.un_turns.specs.Truths.{ReplyLaw}
 
 module _ {M C R K Q A : Type 0} (step : M → C → (M × (R × K)) ⊎ R) where
@@ -37,7 +37,7 @@ module _ {M C R K Q A : Type 0} (step : M → C → (M × (R × K)) ⊎ R) where
   past_reply q r (PastDenied d) e = at_equal q r (Denied d) e tt
   past_reply q r PastMemory e = at_equal q r NoRoom e tt
 
-module _ {M C R H K Q A : Type 0} (step : M → C → (M × (R × K)) ⊎ R) (opening : List M) (least : Q → ℕ) (answer : M → Q → A) where
+module _ {M C R H K Q A : Type 0} (step : M → C → (M × (R × K)) ⊎ R) (opening : List M) (least : Q → ℕ) (answer : Answering M Q A) where
   decided_reply : (s t : SessionModel M C R H K) (q : Request C Q) (cmd : C) (r : Receipt M C R H K) → q ≡ Command cmd → IsSubmitted step opening s t cmd r → IsReplyOf {A = A} step q (receipt_response r)
   decided_reply s t q cmd r e h =
       elim h.receipt.decided as (λ _. IsReplyOf {A = A} step q (receipt_response r)) [
@@ -51,11 +51,16 @@ module _ {M C R H K Q A : Type 0} (step : M → C → (M × (R × K)) ⊎ R) (op
   turn_reply s t q (Decided cmd d) r h e = at_equal step q r (receipt_response d) e.1 (decided_reply s t q cmd d e.0 h)
   turn_reply s t q (Undecided cmd f) r h e = fault_reply step q r f e.1
   turn_reply s t q (Unprepared cmd f) r h e = fault_reply step q r f e.1
-  turn_reply s t q (Answered query v) r h e = at_equal step q r (Answer v.version (answer (arc_value v.state) query)) e.1 tt
+  turn_reply s t q (Answered query v) r h e = at_equal step q r (Answer v.version (answer.at (arc_value v.state) query)) e.1 tt
   turn_reply s t q (Unanswered query f) r h e = view_reply step q r f e.1
-  turn_reply s t q (Recalled query at v w) r h e = at_equal step q r (PastAnswer (max v.version at) (answer (arc_value w.state) query)) e.1 tt
+  turn_reply s t q (Recalled query at v w) r h e = at_equal step q r (PastAnswer (max v.version at) (answer.at (arc_value w.state) query)) e.1 tt
   turn_reply s t q (Unread query at f) r h e = view_reply step q r f e.1
   turn_reply s t q (Unrecalled query at f) r h e = past_reply step q r f e.1
+  turn_reply s t q (Compared query since upto v old new) r h e =
+      at_equal step q r (BetweenAnswer (later_of upto v.version) (answer.between (span_of since upto v.version) (arc_value old.state) (arc_value new.state) query)) e.1 tt
+  turn_reply s t q (Turned query since upto v old) r h e = at_equal step q r (Reversed v.version since (end_of upto v.version)) e.1 tt
+  turn_reply s t q (UnreadSpan query since upto f) r h e = view_reply step q r f e.1
+  turn_reply s t q (Uncompared query since upto at f) r h e = past_reply step q r f e.1
 
   pub replies_are_steps : ReplyLaw H step opening least answer
   replies_are_steps s t request response h = turn_reply s t request h.turn response h.is h.responds

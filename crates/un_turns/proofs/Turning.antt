@@ -1,5 +1,5 @@
 -- What each turn keeps, and the versions that turns tell.
-use Rattle.std.proofs.Common.{◌≡◌, ◌⊎◌, ◌≤◌, ◌<◌, ◌+◌, ℕ, max, List, [], ◌∷◌, length, refl, ap, sym, ◌∙◌, subst, inl, inr, ⊎_elim, arith}
+use Rattle.std.proofs.Common.{◌≡◌, ◌⊎◌, ◌≤◌, ◌<◌, ◌+◌, ℕ, max, Option, List, [], ◌∷◌, length, refl, ap, sym, ◌∙◌, subst, inl, inr, ⊎_elim, arith}
 use Rattle.std.specs.Prelude.{flat_map}
 use Rattle.std.proofs.lemmas.Bool.Decides.{nat_tests}
 use mathlib.Core.List.{IsPrefix}
@@ -20,7 +20,7 @@ use Rattle.un_desk.specs.declared.desk.ViewFault.TheVariants.{Ahead, Denied as N
 use Rattle.un_desk.specs.declared.past.PastFault.{PastFault}
 use Rattle.un_desk.specs.declared.past.PastFault.TheVariants.{Ahead as PastAhead, Denied as PastDenied, Memory as PastMemory}
 use Rattle.un_desk.specs.Pasts.{IsPastFault}
-use Rattle.un_turns.specs.Turns.{Turn, Passed, Decided, Undecided, Unprepared, Answered, Unanswered, Recalled, Unread, Unrecalled, IsTurn, IsRead, IsOlder, IsAnswered, IsUnanswered, IsRecalled, IsUnrecalled}
+use Rattle.un_turns.specs.Turns.{Turn, Passed, Decided, Undecided, Unprepared, Answered, Unanswered, Recalled, Unread, Unrecalled, Compared, Reversed, UnreadSpan, Uncompared, end_of, later_of, IsTurn, IsRead, IsOlder, IsAnswered, IsUnanswered, IsPastView, IsRecalled, IsUnrecalled, IsCompared, IsReversed, IsUncompared}
 use Rattle.un_turns.specs.Conversations.{Conversed, accepted_by, accepted_of, waits_of, wait_if_later, known_after, versions_of, Rises, SnocLaw, VersionLaw}
 
 risen_le : (n : ℕ) → risen n ≤ n + 1
@@ -128,6 +128,25 @@ module _ {M C R H K : Type 0} (step : M → C → (M × (R × K)) ⊎ R) (openin
   unrecalled_moves s t known n at f k h =
       move_trans s h.between t 0 (wait_if_later known n) 0 1 (answered_moves s h.between known n h.view k h.first) (past_fault_moves h.between t at f h.fault h.seen)
 
+  past_view_moves : (s t : SessionModel M C R H K) (at : ℕ) (v : View M) → IsPastView step opening s t at v → IsMove s t 0 1
+  past_view_moves s t at v h = move s t t.seen s.own s.denied (risen s.waits) 0 1 h.kept h.seen (omega arith) (risen_le s.waits)
+
+  compared_moves : (s t : SessionModel M C R H K) (known n since : ℕ) (upto : Option ℕ) (v old new : View M) → known ≤ length s.seen → IsCompared step opening s t n since upto v old new
+      → IsMove s t 0 (wait_if_later known n + 2)
+  compared_moves s t known n since upto v old new k h =
+      wider s t 0 ((wait_if_later known n + 1) + 1) (wait_if_later known n + 2)
+      (move_trans s h.between t 0 (wait_if_later known n + 1) 0 1 (recalled_moves s h.between known n since v old k h.older) (past_view_moves h.between t (end_of upto v.version) new h.newer)) (omega arith)
+
+  uncompared_moves : (s t : SessionModel M C R H K) (known n since : ℕ) (upto : Option ℕ) (at : ℕ) (f : PastFault) → known ≤ length s.seen → IsUncompared step opening s t n since upto at f
+      → IsMove s t 0 (wait_if_later known n + 2)
+  uncompared_moves s t known n since upto at f k h =
+      elim h as (λ _. IsMove s t 0 (wait_if_later known n + 2)) [
+        | inl u ↦ wider s t 0 (wait_if_later known n + 1) (wait_if_later known n + 2) (unrecalled_moves s t known n since f k u.1) (omega arith)
+        | inr u ↦
+            wider s t 0 ((wait_if_later known n + 1) + 1) (wait_if_later known n + 2)
+            (move_trans s u.between t 0 (wait_if_later known n + 1) 0 1 (recalled_moves s u.between known n since u.view u.old k u.older) (past_fault_moves u.between t at f u.fault u.seen)) (omega arith)
+      ]
+
   answered_version : (s t : SessionModel M C R H K) (n : ℕ) (v : View M) → IsAnswered step opening s t n v → v.version ≡ length t.seen
   answered_version s t n v h = ⊎_elim (λ (r : IsRead step opening s t v). r.version) (λ (w : (m : SessionModel M C R H K) × IsOlder step opening s m n × IsRead step opening (counted m) t v). w.2.version) h.1
 
@@ -138,6 +157,14 @@ module _ {M C R H K : Type 0} (step : M → C → (M × (R × K)) ⊎ R) (openin
       let more = prefix_length h.between.seen t.seen h.past.seen in
       let e = answered_version s h.between n v h.first in
       (omega (arith, first, e), omega (arith, more, e), h.past.after.0)
+
+  -- the versions of a query about two of them have been seen, and the first view is not below what had been seen
+  pub compared_seen : (s t : SessionModel M C R H K) (n since : ℕ) (upto : Option ℕ) (v old new : View M) → IsCompared step opening s t n since upto v old new
+      → (length s.seen ≤ v.version) × (v.version ≤ length t.seen) × (since ≤ length t.seen) × (end_of upto v.version ≤ length t.seen)
+  compared_seen s t n since upto v old new h =
+      let r = recalled_seen s h.between n since v old h.older in
+      let more = prefix_length h.between.seen t.seen h.newer.seen in
+      (r.0, omega (arith, r.1, more), omega (arith, r.2, more), h.newer.after.0)
 
   pub decided_moves : (s t : SessionModel M C R H K) (cmd : C) (r : Receipt M C R H K) → IsSubmitted step opening s t cmd r
       → IsMove s t (length (accepted_by cmd r)) 1
@@ -159,6 +186,10 @@ module _ {M C R H K Q : Type 0} (step : M → C → (M × (R × K)) ⊎ R) (open
   turn_moves known s t (Recalled query at v w) k h = recalled_moves step opening s t known (least query) at v w k h
   turn_moves known s t (Unread query at f) k h = unanswered_moves step opening s t known (least query) f k h
   turn_moves known s t (Unrecalled query at f) k h = unrecalled_moves step opening s t known (least query) at f k h
+  turn_moves known s t (Compared query since upto v old new) k h = compared_moves step opening s t known (least query) since upto v old new k h
+  turn_moves known s t (Reversed query since upto v old) k h = recalled_moves step opening s t known (least query) since v old k h.older
+  turn_moves known s t (UnreadSpan query since upto f) k h = unanswered_moves step opening s t known (least query) f k h
+  turn_moves known s t (Uncompared query since upto at f) k h = uncompared_moves step opening s t known (least query) since upto at f k h
 
   -- every turn keeps the session's number, and the session sees no less
   pub turn_number : (s t : SessionModel M C R H K) (u : Turn M C R H K Q) → IsTurn step opening least s u t → t.number ≡ s.number
@@ -195,6 +226,16 @@ module _ {M C R H K Q : Type 0} (step : M → C → (M × (R × K)) ⊎ R) (open
       omega (arith, g, k, r.1, r.2)
   known_seen known s t (Unread query at f) k h = let g = prefix_length s.seen t.seen (turn_seen s t (Unread query at f) h) in omega (arith, g, k)
   known_seen known s t (Unrecalled query at f) k h = let g = prefix_length s.seen t.seen (turn_seen s t (Unrecalled query at f) h) in omega (arith, g, k)
+  known_seen known s t (Compared query since upto v old new) k h =
+      let g = prefix_length s.seen t.seen (turn_seen s t (Compared query since upto v old new) h) in
+      let r = compared_seen step opening s t (least query) since upto v old new h in
+      omega (arith, g, k, r.1, r.3)
+  known_seen known s t (Reversed query since upto v old) k h =
+      let g = prefix_length s.seen t.seen (turn_seen s t (Reversed query since upto v old) h) in
+      let r = recalled_seen step opening s t (least query) since v old h.older in
+      omega (arith, g, k, r.1)
+  known_seen known s t (UnreadSpan query since upto f) k h = let g = prefix_length s.seen t.seen (turn_seen s t (UnreadSpan query since upto f) h) in omega (arith, g, k)
+  known_seen known s t (Uncompared query since upto at f) k h = let g = prefix_length s.seen t.seen (turn_seen s t (Uncompared query since upto at f) h) in omega (arith, g, k)
 
   -- the versions rise from what the session had seen
   rise_from : (from : ℕ) (s t : SessionModel M C R H K) (us : List (Turn M C R H K Q)) → from ≤ length s.seen → Conversed step opening least s us t → Rises from (flat_map versions_of us)
@@ -216,6 +257,14 @@ module _ {M C R H K Q : Type 0} (step : M → C → (M × (R × K)) ⊎ R) (open
       (omega (arith, k, r.0), rise_from (max v.version at) h.0 t us (omega (arith, r.1, r.2)) h.2)
   rise_from from s t (Unread query at f ∷ us) k h = rise_from from h.0 t us (known_seen from s h.0 (Unread query at f) k h.1) h.2
   rise_from from s t (Unrecalled query at f ∷ us) k h = rise_from from h.0 t us (known_seen from s h.0 (Unrecalled query at f) k h.1) h.2
+  rise_from from s t (Compared query since upto v old new ∷ us) k h =
+      let r = compared_seen step opening s h.0 (least query) since upto v old new h.1 in
+      (omega (arith, k, r.0), rise_from (later_of upto v.version) h.0 t us (omega (arith, r.1, r.3)) h.2)
+  rise_from from s t (Reversed query since upto v old ∷ us) k h =
+      let r = recalled_seen step opening s h.0 (least query) since v old h.1.older in
+      (omega (arith, k, r.0), rise_from v.version h.0 t us (omega (arith, r.1)) h.2)
+  rise_from from s t (UnreadSpan query since upto f ∷ us) k h = rise_from from h.0 t us (known_seen from s h.0 (UnreadSpan query since upto f) k h.1) h.2
+  rise_from from s t (Uncompared query since upto at f ∷ us) k h = rise_from from h.0 t us (known_seen from s h.0 (Uncompared query since upto at f) k h.1) h.2
 
   pub versions_rise : VersionLaw H step opening least
   versions_rise s t us h = rise_from (length s.seen) s t us (omega arith) h

@@ -1,5 +1,5 @@
 -- What requests that are handled one after another do to a session, and the laws of it.
-use Rattle.std.specs.Prelude.{◌≡◌, ◌⊎◌, ◌≤◌, ◌<◌, ◌+◌, ◌-◌, ◌^◌, min, ℕ, true, false, if◌then◌else◌, nat_lt, max, List, [], ◌∷◌, ◌++◌, length, map, take, flat_map}
+use Rattle.std.specs.Prelude.{◌≡◌, ◌⊎◌, ◌≤◌, ◌<◌, ◌+◌, ◌-◌, ◌^◌, min, ℕ, true, false, if◌then◌else◌, nat_lt, max, Option, Some, List, [], ◌∷◌, ◌++◌, length, map, take, flat_map}
 use Rattle.std.proofs.Common.{inr}
 use Rattle.std.specs.Arc.{arc_value}
 use Rattle.un_machine.specs.declared.Entry.{Entry}
@@ -12,7 +12,7 @@ use Rattle.un_desk.specs.declared.desk.ViewFault.TheVariants.{Ahead, Denied, Mem
 use Rattle.un_turns.specs.Own.{own_entries, IsWithin}
 use Rattle.un_desk.specs.declared.past.PastFault.{PastFault}
 use Rattle.un_desk.specs.declared.past.PastFault.TheVariants.{Ahead as PastAhead, Denied as PastDenied, Memory as PastMemory}
-use Rattle.un_turns.specs.Turns.{Turn, IsTurn, Passed, Decided, Undecided, Unprepared, Answered, Unanswered, Recalled, Unread, Unrecalled}
+use Rattle.un_turns.specs.Turns.{Turn, IsTurn, Passed, Decided, Undecided, Unprepared, Answered, Unanswered, Recalled, Unread, Unrecalled, Compared, Reversed, UnreadSpan, Uncompared, end_of, later_of}
 
 -- 1 if more entries are asked for than are known, and otherwise 0
 abbrev pub wait_if_later : ℕ → ℕ → ℕ
@@ -29,6 +29,12 @@ abbrev pub IsNotYet : ℕ → ℕ → PastFault → Type 0
 IsNotYet at seen (PastAhead a) = (a.seen ≡ at) × (a.latest ≤ seen) × (a.latest < at)
 IsNotYet at seen (PastDenied d) = Unit {0}
 IsNotYet at seen PastMemory = Unit {0}
+
+-- a query about two versions that is refused because one of them, which it names, is over what the session has then seen
+abbrev pub IsNotReached : ℕ → Option ℕ → ℕ → ℕ → PastFault → Type 0
+IsNotReached since upto at seen (PastAhead a) = ((at ≡ since) ⊎ (upto ≡ Some at)) × (a.seen ≡ at) × (a.latest ≤ seen) × (a.latest < at)
+IsNotReached since upto at seen (PastDenied d) = Unit {0}
+IsNotReached since upto at seen PastMemory = Unit {0}
 
 module _ {M C R H K : Type 0} where
   -- the command of a receipt with its reply, if it was accepted
@@ -52,6 +58,10 @@ module _ {M C R H K Q : Type 0} where
   versions_of (Recalled query at v w) = max v.version at ∷ []
   versions_of (Unread query at f) = []
   versions_of (Unrecalled query at f) = []
+  versions_of (Compared query since upto v old new) = later_of upto v.version ∷ []
+  versions_of (Reversed query since upto v old) = v.version ∷ []
+  versions_of (UnreadSpan query since upto f) = []
+  versions_of (Uncompared query since upto at f) = []
 
   -- the command that a turn accepted, with its reply
   abbrev pub accepted_of : Turn M C R H K Q → List (C × R)
@@ -64,9 +74,13 @@ module _ {M C R H K Q : Type 0} where
   accepted_of (Recalled query at v w) = []
   accepted_of (Unread query at f) = []
   accepted_of (Unrecalled query at f) = []
+  accepted_of (Compared query since upto v old new) = []
+  accepted_of (Reversed query since upto v old) = []
+  accepted_of (UnreadSpan query since upto f) = []
+  accepted_of (Uncompared query since upto at f) = []
 
-  -- how many times a turn may wait: once for a command that comes to the desk, once for a query that asks for more entries than are known, and
-  -- once for a past version that is asked of the desk
+  -- how many times a turn may wait: once for a command that comes to the desk, once for a query that asks for more entries than are known, once
+  -- for a past version that is asked of the desk, and twice for two versions
   abbrev pub waits_of : (Q → ℕ) → ℕ → Turn M C R H K Q → ℕ
   waits_of least known Passed = 0
   waits_of least known (Decided cmd r) = 1
@@ -77,6 +91,10 @@ module _ {M C R H K Q : Type 0} where
   waits_of least known (Recalled query at v w) = wait_if_later known (least query) + 1
   waits_of least known (Unread query at f) = wait_if_later known (least query)
   waits_of least known (Unrecalled query at f) = wait_if_later known (least query) + 1
+  waits_of least known (Compared query since upto v old new) = wait_if_later known (least query) + 2
+  waits_of least known (Reversed query since upto v old) = wait_if_later known (least query) + 1
+  waits_of least known (UnreadSpan query since upto f) = wait_if_later known (least query)
+  waits_of least known (Uncompared query since upto at f) = wait_if_later known (least query) + 2
 
   -- how many entries are known after a turn: those known before it, or the version that it reports
   abbrev pub known_after : ℕ → Turn M C R H K Q → ℕ
@@ -89,6 +107,10 @@ module _ {M C R H K Q : Type 0} where
   known_after known (Recalled query at v w) = max known (max v.version at)
   known_after known (Unread query at f) = known
   known_after known (Unrecalled query at f) = known
+  known_after known (Compared query since upto v old new) = max known (later_of upto v.version)
+  known_after known (Reversed query since upto v old) = max known v.version
+  known_after known (UnreadSpan query since upto f) = known
+  known_after known (Uncompared query since upto at f) = known
 
   -- how many times the turns may wait, if this many entries are known before them
   abbrev pub waits_due : (Q → ℕ) → ℕ → List (Turn M C R H K Q) → ℕ
@@ -121,6 +143,10 @@ module _ {M C R H K Q : Type 0} where
   denials_of (Recalled query at v w) = 0
   denials_of (Unread query at f) = view_denials f
   denials_of (Unrecalled query at f) = past_denials f
+  denials_of (Compared query since upto v old new) = 0
+  denials_of (Reversed query since upto v old) = 0
+  denials_of (UnreadSpan query since upto f) = view_denials f
+  denials_of (Uncompared query since upto at f) = past_denials f
 
   abbrev pub denials : List (Turn M C R H K Q) → ℕ
   denials [] = 0
@@ -166,6 +192,12 @@ module _ {M C R H K Q : Type 0} where
       (least query ≤ v.version) × (v.version ≤ length seen) × (w.version ≡ at) × (at ≤ length seen) × Reaches step opening (take at seen) (arc_value w.state)
   IsTrueTurn step opening least number seen (Unread query at f) = IsAheadOf (least query) (length seen) f
   IsTrueTurn step opening least number seen (Unrecalled query at f) = IsNotYet at (length seen) f
+  IsTrueTurn step opening least number seen (Compared query since upto v old new) =
+      (least query ≤ v.version) × (v.version ≤ length seen) × (since ≤ end_of upto v.version) × (end_of upto v.version ≤ length seen)
+      × Reaches step opening (take since seen) (arc_value old.state) × Reaches step opening (take (end_of upto v.version) seen) (arc_value new.state)
+  IsTrueTurn step opening least number seen (Reversed query since upto v old) = (least query ≤ v.version) × (v.version ≤ length seen) × (end_of upto v.version < since)
+  IsTrueTurn step opening least number seen (UnreadSpan query since upto f) = IsAheadOf (least query) (length seen) f
+  IsTrueTurn step opening least number seen (Uncompared query since upto at f) = IsNotReached since upto at (length seen) f
 
   abbrev pub AreTrueTurns : (M → C → (M × (R × K)) ⊎ R) → List M → (Q → ℕ) → ℕ → List (Entry M C R H K) → List (Turn M C R H K Q) → Type 0
   AreTrueTurns step opening least number seen [] = Unit {0}
@@ -191,7 +223,8 @@ module _ {M C R K Q : Type 0} where
       → IsWithin s → Conversed step opening least s us t
       → IsWithin t × ((es : List (Entry M C R H K)) × (own_entries t ≡ own_entries s ++ es) × (map decision es ≡ flat_map accepted_of us))
 
-  -- the count of waits rises by at most one for each command, one for each query that asks for more entries than are known, and one for each past version
+  -- the count of waits rises by at most one for each command, one for each query that asks for more entries than are known, one for each past version, and two for
+  -- each two versions
   abbrev pub WaitLaw : (H : Type 0) → (M → C → (M × (R × K)) ⊎ R) → List M → (Q → ℕ) → Type 0
   WaitLaw H step opening least =
       (s t : SessionModel M C R H K) (us : List (Turn M C R H K Q))

@@ -5,3 +5,4 @@ pub mod Served
 pub mod Truths
 pub mod Prepared
 pub mod Pasts
+pub mod Spans

@@ -1,5 +1,5 @@
 -- What one request does to the session that handles it.
-use Rattle.std.specs.Prelude.{◌≡◌, ◌⊎◌, ◌≤◌, ◌<◌, ℕ, List, length}
+use Rattle.std.specs.Prelude.{◌≡◌, ◌⊎◌, ◌≤◌, ◌<◌, ℕ, max, List, length, Option, unwrap_or}
 use Rattle.std.specs.Arc.{arc_value}
 use mathlib.Core.List.{IsPrefix}
 use Rattle.un_machine.specs.Logs.{Reaches}
@@ -37,6 +37,22 @@ pub data Turn (M C R H K Q : Type 0) : Type 0 where
   Unread : Q → ℕ → ViewFault → Turn M C R H K Q
   -- a query at a past version that was not answered after the first view was read
   Unrecalled : Q → ℕ → PastFault → Turn M C R H K Q
+  -- a query about two versions that was answered: the view that was read first, and the views of the two versions
+  Compared : Q → ℕ → Option ℕ → View M → View M → View M → Turn M C R H K Q
+  -- a query about two versions of which the first comes after the second: the view that was read first, and that of the first version
+  Reversed : Q → ℕ → Option ℕ → View M → View M → Turn M C R H K Q
+  -- a query about two versions, before which nothing could be read
+  UnreadSpan : Q → ℕ → Option ℕ → ViewFault → Turn M C R H K Q
+  -- a query about two versions that was not answered after the first view was read: the version that was not reached
+  Uncompared : Q → ℕ → Option ℕ → ℕ → PastFault → Turn M C R H K Q
+
+-- the second of two versions, which is that of a view if no other is asked for
+abbrev pub end_of : Option ℕ → ℕ → ℕ
+end_of upto version = unwrap_or upto version
+
+-- the version that is reported with an answer about two versions: that of the view, or the second one if it is greater
+abbrev pub later_of : Option ℕ → ℕ → ℕ
+later_of upto version = max version (end_of upto version)
 
 -- the fault of a read, as the fault of a view
 abbrev pub view_fault : SessionFault → ViewFault
@@ -90,6 +106,34 @@ module _ {M C R H K : Type 0} where
     pub fault : IsPastFault (counted between) t at f
     pub seen : IsPrefix between.seen t.seen
 
+module _ {M C R H K : Type 0} where
+  -- a query that was answered about two versions: after a view as for any query, and that of the first version
+  pub record IsCompared (step : M → C → (M × (R × K)) ⊎ R) (opening : List M) (s t : SessionModel M C R H K) (least since : ℕ) (upto : Option ℕ) (v old new : View M) : Type 0 where
+    pub between : SessionModel M C R H K
+    pub older : IsRecalled step opening s between least since v old
+    pub order : since ≤ end_of upto v.version
+    pub newer : IsPastView step opening between t (end_of upto v.version) new
+
+  -- a query about two versions of which the first, which was reached, comes after the second
+  pub record IsReversed (step : M → C → (M × (R × K)) ⊎ R) (opening : List M) (s t : SessionModel M C R H K) (least since : ℕ) (upto : Option ℕ) (v old : View M) : Type 0 where
+    pub older : IsRecalled step opening s t least since v old
+    pub order : end_of upto v.version < since
+
+  -- a query about two versions of which the first was reached, and the second was not
+  pub record IsUnreached (step : M → C → (M × (R × K)) ⊎ R) (opening : List M) (s t : SessionModel M C R H K) (least since : ℕ) (upto : Option ℕ) (at : ℕ) (f : PastFault) : Type 0 where
+    pub between : SessionModel M C R H K
+    pub view : View M
+    pub old : View M
+    pub older : IsRecalled step opening s between least since view old
+    pub is_end : at ≡ end_of upto view.version
+    pub fault : IsPastFault (counted between) t at f
+    pub seen : IsPrefix between.seen t.seen
+
+  -- a query about two versions of which one was not reached
+  abbrev pub IsUncompared : (M → C → (M × (R × K)) ⊎ R) → List M → SessionModel M C R H K → SessionModel M C R H K → ℕ → ℕ → Option ℕ → ℕ → PastFault → Type 0
+  IsUncompared step opening s t least since upto at f =
+      ((at ≡ since) × IsUnrecalled step opening s t least since f) ⊎ IsUnreached step opening s t least since upto at f
+
 module _ {M C R H K Q : Type 0} where
   -- what a request did to the session. `least` is the number of entries that a query asks for at least
   abbrev pub IsTurn : (M → C → (M × (R × K)) ⊎ R) → List M → (Q → ℕ) → SessionModel M C R H K → Turn M C R H K Q → SessionModel M C R H K → Type 0
@@ -102,3 +146,7 @@ module _ {M C R H K Q : Type 0} where
   IsTurn step opening least s (Recalled query at v w) t = IsRecalled step opening s t (least query) at v w
   IsTurn step opening least s (Unread query at f) t = IsUnanswered step opening s t (least query) f
   IsTurn step opening least s (Unrecalled query at f) t = IsUnrecalled step opening s t (least query) at f
+  IsTurn step opening least s (Compared query since upto v old new) t = IsCompared step opening s t (least query) since upto v old new
+  IsTurn step opening least s (Reversed query since upto v old) t = IsReversed step opening s t (least query) since upto v old
+  IsTurn step opening least s (UnreadSpan query since upto f) t = IsUnanswered step opening s t (least query) f
+  IsTurn step opening least s (Uncompared query since upto at f) t = IsUncompared step opening s t (least query) since upto at f

@@ -1,17 +1,21 @@
 //! One request at a session: a command goes to the desk, and a query is answered without it if possible. A query at a past
-//! version also asks the desk, after a view as for any query.
+//! version, or about two versions, also asks the desk, after a view as for any query.
 ghost use Rattle.std.specs.Prelude.{IfOk, IfErr, IfSome, None, length, ◌≡◌};
 ghost use mathlib.Core.List.{IsPrefix};
 ghost use Rattle.un_desk.specs.Desks.{IsSubmitted, IsDeskFault, counted};
 ghost use Rattle.un_turns.specs.Turns.{IsAnswered, IsUnanswered, view_fault};
 ghost use Rattle.un_turns.specs.Prepared.{IsPreparedAfter};
-ghost use Rattle.un_turns.specs.Served.{fault_response, IsServed, past_response, receipt_response, view_response};
+ghost use Rattle.un_turns.specs.Served.{answering, fault_response, IsAnswerOr, IsServed, past_response, receipt_response, view_response};
+ghost use Rattle.un_turns.specs.declared.request.Response.TheVariants.{BetweenAnswer, Memory};
+ghost use Rattle.std.specs.Arc.{arc_value};
+ghost use Rattle.un_asof.specs.Pasts.{KeepLaw, pair_of};
+ghost use Rattle.un_turns.specs.Spans.{HasEntries};
 ghost use Rattle.un_turns.specs.Pasts.{IsKeptFor, TakenLaw};
 
 use crate::answers::Answers;
-use crate::request::{Request, Response};
+use crate::request::{Request, Response, Span};
 use std::alloc::{AllocError, Global};
-use std::sync::Wait;
+use std::sync::{Arc, Wait};
 use std::thread::Threads;
 use un_asof::Past;
 use un_asof::laws::stands_for_longer;
@@ -136,7 +140,7 @@ fn decide_prepared<R: Wait + Threads + Sync, M: Machine, A: Answers<M>, J: Board
 ) -> Response<M::Reply, A::Answer>
 where
     Published<M, J>: Snapshot<State = Published<M, J>>,
-    ensures { IsServed M.step J.opening A.least A.answer
+    ensures { IsServed M.step J.opening A.least (answering A.answer A.between)
         session.old (Request.Command cmd) result session.new }
 {
     let view = match session.read() {
@@ -162,7 +166,7 @@ fn decide<R: Wait + Threads + Sync, M: Machine, A: Answers<M>, J: BoardName<M>>(
 ) -> Response<M::Reply, A::Answer>
 where
     Published<M, J>: Snapshot<State = Published<M, J>>,
-    ensures { IsServed M.step J.opening A.least A.answer
+    ensures { IsServed M.step J.opening A.least (answering A.answer A.between)
         session.old (Request.Command cmd) result session.new }
 {
     if A::may_prepare(&cmd) {
@@ -184,7 +188,7 @@ fn answer<R: Wait, M: Machine, A: Answers<M>, J: BoardName<M>>(
 ) -> Response<M::Reply, A::Answer>
 where
     Published<M, J>: Snapshot<State = Published<M, J>>,
-    ensures { IsServed M.step J.opening A.least A.answer
+    ensures { IsServed M.step J.opening A.least (answering A.answer A.between)
         session.old (Request.Query query) result session.new }
 {
     let view = match view_at_least(rt, desk, session, A::least(&query)) {
@@ -230,7 +234,7 @@ fn answer_past<R: Wait, M: Machine, A: Answers<M>, J: BoardName<M>>(
 where
     Published<M, J>: Snapshot<State = Published<M, J>>,
     requires { IsKeptFor M.step J.opening kept.old session.old.seen }
-    ensures served { IsServed M.step J.opening A.least A.answer
+    ensures served { IsServed M.step J.opening A.least (answering A.answer A.between)
         session.old (Request.Past at query) result session.new }
     ensures kept { IsKeptFor M.step J.opening kept.new session.new.seen }
 {
@@ -257,13 +261,105 @@ where
     }
 }
 
+// Keeps a view that was read, if there is memory for it.
+fn keep_view<M: Machine, J: BoardName<M>>(past: &mut Past<M, J>, view: &View<M>)
+    ensures { KeepLaw M.Hint M.step J.opening past.old (pair_of view.now) past.new }
+{
+    if let Ok(state) = Arc::try_clone(&view.state) {
+        past.keep(view.version, state);
+    }
+}
+
+// The answer about two views, of which the first leads to the second by the entries of which it was gathered.
+fn compare_views<M: Machine, A: Answers<M>>(
+    alloc: Global,
+    span: Span,
+    older: &View<M>,
+    newer: &View<M>,
+    gathered: &A::Gathered,
+    query: &A::Query,
+) -> Response<M::Reply, A::Answer>
+    requires { HasEntries M.step A.Gathered.stands
+        (arc_value older.now.state) (arc_value newer.now.state) gathered.now }
+    ensures { IsAnswerOr Memory (BetweenAnswer span.version
+        (A.between span (arc_value older.now.state) (arc_value newer.now.state) query.now)) result }
+{
+    let (old, new) = (&older.state, &newer.state);
+    let Ok(answer) = A::compare(alloc, span, old, new, gathered, query) else {
+        return Response::Memory;
+    };
+    Response::BetweenAnswer {
+        version: span.version,
+        answer,
+    }
+}
+
+// Handles a query about two versions. The first view says how much of the log the caller has seen.
+fn answer_between<R: Wait, M: Machine, A: Answers<M>, J: BoardName<M>>(
+    rt: &R,
+    alloc: Global,
+    desk: &Desk<M, J>,
+    session: &mut Session<M, J>,
+    kept: &mut Option<Past<M, J>>,
+    since: u64,
+    upto: Option<u64>,
+    query: A::Query,
+) -> Response<M::Reply, A::Answer>
+where
+    Published<M, J>: Snapshot<State = Published<M, J>>,
+    requires { IsKeptFor M.step J.opening kept.old session.old.seen }
+    ensures served { IsServed M.step J.opening A.least (answering A.answer A.between)
+        session.old (Request.Between since upto query) result session.new }
+    ensures kept { IsKeptFor M.step J.opening kept.new session.new.seen }
+{
+    stands_for_longer::<M, J>();
+    let first = match view_at_least(rt, desk, session, A::least(&query)) {
+        Ok(view) => view,
+        Err(fault) => return view_response(fault),
+    };
+    let Ok(mut past) = take_past(alloc, desk, kept) else {
+        return Response::Memory;
+    };
+    keep_view(&mut past, &first);
+    let found = desk.past(rt, alloc, session, &mut past, since);
+    let older = match found {
+        Ok(view) => view,
+        Err(fault) => {
+            *kept = Some(past);
+            return past_response(fault);
+        }
+    };
+    let end = upto.unwrap_or(first.version);
+    if end < since {
+        *kept = Some(past);
+        return Response::Reversed {
+            version: first.version,
+            since,
+            upto: end,
+        };
+    }
+    let mut gathered = A::start_gathering(alloc);
+    let found = desk.span(rt, alloc, session, &mut past, &older, end, &mut gathered);
+    *kept = Some(past);
+    let newer = match found {
+        Ok(view) => view,
+        Err(fault) => return past_response(fault),
+    };
+    let span = Span {
+        since,
+        upto: end,
+        version: first.version.max(end),
+    };
+    compare_views::<M, A>(alloc, span, &older, &newer, &gathered, &query)
+}
+
 /// Handles a request: one turn takes the session from its state before to its state after, and the response is that of
 /// the turn. It waits for the desk if the request is a command, a query that asks for more entries of the log than
-/// the session finds, or a query at a past version. `Memory` and `Denied` come as from the calls of the session and the
-/// desk; `Memory` also if memory runs out while a query is answered, while work is done for a command in advance, or
-/// while a past is made. After both nothing was committed.
+/// the session finds, a query at a past version, or one about two versions. `Memory` and `Denied` come as from the calls
+/// of the session and the desk; `Memory` also if memory runs out while a query is answered, while work is done for a
+/// command in advance, while entries are gathered, or while a past is made. After both nothing was committed.
 ///
-/// The first query at a past version makes the past, which is then kept for the next ones.
+/// The first query at a past version, or about two versions, makes the past, which is then kept for the next ones.
 pub fn handle_request<R: Wait + Threads + Sync, M: Machine, A: Answers<M>, J: BoardName<M>>(
     rt: &R,
     alloc: Global,
@@ -275,7 +371,8 @@ pub fn handle_request<R: Wait + Threads + Sync, M: Machine, A: Answers<M>, J: Bo
 where
     Published<M, J>: Snapshot<State = Published<M, J>>,
     requires { IsKeptFor M.step J.opening kept.old session.old.seen }
-    ensures served { IsServed M.step J.opening A.least A.answer session.old request result session.new }
+    ensures served { IsServed M.step J.opening A.least (answering A.answer A.between)
+        session.old request result session.new }
     ensures kept { IsKeptFor M.step J.opening kept.new session.new.seen }
 {
     stands_for_longer::<M, J>();
@@ -285,6 +382,9 @@ where
         Request::Query(query) => answer::<R, M, A, J>(rt, alloc, desk, session, query),
         Request::Past { at, query } => {
             answer_past::<R, M, A, J>(rt, alloc, desk, session, kept, at, query)
+        }
+        Request::Between { since, upto, query } => {
+            answer_between::<R, M, A, J>(rt, alloc, desk, session, kept, since, upto, query)
         }
     }
 }

@@ -3,7 +3,7 @@ use Rattle.std.proofs.Common.{◌≡◌, ℕ, ◌<◌, ◌^◌, List, [], ◌∷
 use Rattle.std.proofs.lemmas.Fmt.{decimal_injective}
 use Rattle.un_words.specs.Words.{IsCommand}
 use Rattle.un_words.specs.declared.command.ProgramCommand.{ProgramCommand}
-use Rattle.un_words.specs.declared.command.ProgramCommand.TheVariants.{Script, Make, Serve}
+use Rattle.un_words.specs.declared.command.ProgramCommand.TheVariants.{Script, Follow, Make, Serve}
 
 -- a list of three words
 pub three_words : (words : List (List ℕ)) (a b c x y z : List ℕ) → length words ≡ 3 → a ≡ get_or words 0 x → b ≡ get_or words 1 y → c ≡ get_or words 2 z → words ≡ a ∷ b ∷ c ∷ []
@@ -20,8 +20,19 @@ same_numbers name words a b c d sa sb sc sd one other =
     let second : decimal b ≡ decimal d = cc in
     (decimal_injective a c (omega arith) (omega arith) first, decimal_injective b d (omega arith) (omega arith) second)
 
+-- the two commands of one word have names of other lengths or bytes
+other_names : codes "script" ∷ [] ≡ codes "follow" ∷ [] → ⊥
+other_names e = let first : 115 ≡ 102 = ap (λ (words : List (List ℕ)). get_or (get_or words 0 []) 0 0) e in omega (arith, first)
+
 unique : (words : List (List ℕ)) (one other : ProgramCommand) → IsCommand words one → IsCommand words other → one ≡ other
 unique words Script Script is is' = cc
+unique words Script Follow is is' = absurd (other_names (sym is ∙ is'))
+unique words Follow Script is is' = absurd (other_names (sym is' ∙ is))
+unique words Follow Follow is is' = cc
+unique words Follow (Make seed count) is is' = let e = sym is ∙ is'.0 in cc
+unique words Follow (Serve port workers) is is' = let e = sym is ∙ is'.0 in cc
+unique words (Make seed count) Follow is is' = let e = sym is.0 ∙ is' in cc
+unique words (Serve port workers) Follow is is' = let e = sym is.0 ∙ is' in cc
 unique words Script (Make seed count) is is' = let e = sym is ∙ is'.0 in cc
 unique words Script (Serve port workers) is is' = let e = sym is ∙ is'.0 in cc
 unique words (Make seed count) Script is is' = let e = sym is.0 ∙ is' in cc

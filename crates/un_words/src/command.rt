@@ -17,6 +17,8 @@ const MOST_WORKERS: u32 = 64;
 pub enum ProgramCommand {
     /// `script`: runs the script that is read from standard input.
     Script,
+    /// `follow`: keeps a copy of a kept topology from pages of changes that are read from standard input.
+    Follow,
     /// `make SEED COUNT`: builds a network of this many junctions, which the seed determines.
     Make { seed: u32, count: u32 },
     /// `serve PORT WORKERS`: answers HTTP requests at a port, with this many workers.
@@ -24,15 +26,15 @@ pub enum ProgramCommand {
 }
 
 // The command with one word.
-fn read_script(name: &Word) -> Option<ProgramCommand>
+fn read_name(name: &Word) -> Option<ProgramCommand>
     ensures read { MatchOption result
         ((command : ProgramCommand) → ¬ IsCommand (name.now ∷ []) command)
         (IsCommand (name.now ∷ [])) }
 {
-    if name.as_str() == "script" {
-        Some(ProgramCommand::Script)
-    } else {
-        None
+    match name.as_str() {
+        "script" => Some(ProgramCommand::Script),
+        "follow" => Some(ProgramCommand::Follow),
+        _ => None,
     }
 }
 
@@ -83,7 +85,7 @@ pub fn read_words(words: &[Word]) -> Option<ProgramCommand>
     ensures only { (command : ProgramCommand) → IsCommand words.now command → result ≡ Some command }
 {
     match words {
-        [name] => read_script(name),
+        [name] => read_name(name),
         [name, first, second] => read_numbers(name, first, second),
         _ => None,
     }

@@ -16,6 +16,7 @@ fn read_line(alloc: Global, line: &str) -> Result<Option<ProgramCommand>, AllocE
 fn commands_are_read(rt: HostRuntime) -> Result<(), Fail> {
     let table = [
         ("script", ProgramCommand::Script),
+        ("follow", ProgramCommand::Follow),
         ("make 0 1", ProgramCommand::Make { seed: 0, count: 1 }),
         (
             "make 4294967295 20000",
@@ -50,6 +51,7 @@ fn other_words_are_refused(rt: HostRuntime) -> Result<(), Fail> {
     let table = [
         "",
         "script x",
+        "follow x",
         "make 07 1",
         "make 00 1",
         "make 1 0",

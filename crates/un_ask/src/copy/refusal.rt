@@ -44,6 +44,14 @@ fn copy_numbers(refusal: &Refusal) -> Refusal
             at: *at,
             latest: *latest,
         },
+        Refusal::WrongPage { after, at } => Refusal::WrongPage {
+            after: *after,
+            at: *at,
+        },
+        Refusal::BadSpan { since, upto } => Refusal::BadSpan {
+            since: *since,
+            upto: *upto,
+        },
         _ => unreachable!(),
     }
 }

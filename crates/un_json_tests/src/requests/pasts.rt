@@ -5,7 +5,7 @@ use un_ask::{Asked, PastQuery, Request};
 use un_defs::Port;
 use un_json::read_request;
 
-const PAST_QUERIES: [(&str, &str); 17] = [
+const PAST_QUERIES: [(&str, &str); 18] = [
     ("{'ask':'past','at':0,'query':{'ask':'version'}}", "good"),
     ("{'ask':'past'}", "at"),
     (
@@ -41,6 +41,10 @@ const PAST_QUERIES: [(&str, &str); 17] = [
         "query",
     ),
     ("{'ask':'past','at':3,'query':{'ask':'past'}}", "query"),
+    (
+        "{'ask':'past','at':3,'query':{'ask':'changes','since':0}}",
+        "query",
+    ),
     (
         "{'ask':'past','at':3,'query':{'ask':'version'},'seen':null,'id':1}",
         "seen",

@@ -24,3 +24,10 @@ returns-in-Memory-clause-outgoing g c = (c.args.response, inl refl, λ asked. rw
 pub returns-in-Accepted-clause-outgoing : goal.returns-in-Accepted-clause-outgoing
 returns-in-Accepted-clause-outgoing g c =
     reply_written g.S.Service.printing c.args.response c.in-Accepted.reply c.print_reply.result c.print_reply.new.out.items c.in-Accepted.is c.print_reply.ensures.page
+
+pub returns-in-BetweenAnswer-clause-outgoing : goal.returns-in-BetweenAnswer-clause-outgoing
+returns-in-BetweenAnswer-clause-outgoing g c =
+    (c.args.response, inl refl, λ asked. rw c.in-BetweenAnswer.is (record { says = c.answer_page-in-BetweenAnswer.ensures; ends = λ close. refl }))
+
+pub returns-in-Reversed-clause-outgoing : goal.returns-in-Reversed-clause-outgoing
+returns-in-Reversed-clause-outgoing g c = (c.args.response, inl refl, λ asked. rw c.in-Reversed.is (record { says = sym c.print_reversed.ensures.page; ends = λ close. refl }))

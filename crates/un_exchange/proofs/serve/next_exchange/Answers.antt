@@ -7,16 +7,17 @@ use Rattle.un_exchange.specs.Writing.{Writes, page_bytes, check_end}
 use Rattle.un_exchange.specs.Pages.{http_page, check_status}
 use Rattle.un_exchange.proofs.Handling.{answered_by}
 use Rattle.un_exchange.proofs.Linking.{answered, stopped, refused}
+use Rattle.un_turns.specs.Served.{answering}
 use Rattle.un_exchange.proofs.serve.next_exchange.Goals as goal
 
 pub returns-in-Request-clause-proceeds : goal.returns-in-Request-clause-proceeds
 returns-in-Request-clause-proceeds g c s left taken h =
     let n = c.in-Request.ensures.answers in
     let a =
-    answered_by g.M.Machine.step g.J.BoardName.opening g.S.Answers.least g.S.Answers.answer g.S.Service.asks g.S.Service.printing
+    answered_by g.M.Machine.step g.J.BoardName.opening g.S.Answers.least (answering g.S.Answers.answer g.S.Answers.between) g.S.Service.asks g.S.Service.printing
     c.args.session.now c.respond-outgoing.new.session (g.L.Link.taken c.next_request.new.link) (g.L.Link.taken c.send_outgoing.new.link) c.next_request.new.inbox c.in-Request.request.close
     c.respond-outgoing.new.out.items c.deref.result.now c.respond-outgoing.result c.send_outgoing.result c.respond-outgoing.ensures.handled c.deref.ensures.value c.send_outgoing.ensures.writes in
-    answered g.M.Machine.step g.J.BoardName.opening g.S.Answers.least g.S.Answers.answer g.S.Service.asks g.S.Service.printing c.one_more.ensures.next c.one_more_request.ensures
+    answered g.M.Machine.step g.J.BoardName.opening g.S.Answers.least (answering g.S.Answers.answer g.S.Answers.between) g.S.Service.asks g.S.Service.printing c.one_more.ensures.next c.one_more_request.ensures
     s c.args.session.now c.respond-outgoing.new.session left (g.L.Link.left c.args.link.now) (g.L.Link.left c.send_outgoing.new.link) taken (g.L.Link.taken c.args.link.now)
     c.args.room.now.inbox.held n.0 c.next_request.new.inbox.held a.exchange c.send_outgoing.result h
     (subst (λ (z : Option (List ℕ)). Consumes (g.L.Link.left c.args.link.now) z n.0) (sym c.send_outgoing.ensures.keeps_left) n.1.0)
@@ -28,7 +29,7 @@ returns-in-Request-clause-proceeds g c s left taken h =
 pub returns-in-Failed-clause-proceeds : goal.returns-in-Failed-clause-proceeds
 returns-in-Failed-clause-proceeds g c s left taken h =
     let n = c.in-Failed.ensures.answers in
-    refused g.M.Machine.step g.J.BoardName.opening g.S.Answers.least g.S.Answers.answer g.S.Service.asks g.S.Service.printing
+    refused g.M.Machine.step g.J.BoardName.opening g.S.Answers.least (answering g.S.Answers.answer g.S.Answers.between) g.S.Service.asks g.S.Service.printing
     s c.args.session.now left (g.L.Link.left c.args.link.now) (g.L.Link.left c.send_then.new.link) taken (g.L.Link.taken c.args.link.now) (g.L.Link.taken c.send_then.new.link)
     c.args.room.now.inbox.held n.0 c.next_request.new.inbox.held c.in-Failed.check c.send_then.result h
     (subst (λ (z : Option (List ℕ)). Consumes (g.L.Link.left c.args.link.now) z n.0) (sym c.send_then.ensures.keeps_left) n.1.0)
@@ -39,20 +40,20 @@ returns-in-Failed-clause-proceeds g c s left taken h =
 pub returns-in-Closed-clause-proceeds : goal.returns-in-Closed-clause-proceeds
 returns-in-Closed-clause-proceeds g c s left taken h =
     let n = c.in-Closed.ensures.answers in
-    stopped g.M.Machine.step g.J.BoardName.opening g.S.Answers.least g.S.Answers.answer g.S.Service.asks g.S.Service.printing
+    stopped g.M.Machine.step g.J.BoardName.opening g.S.Answers.least (answering g.S.Answers.answer g.S.Answers.between) g.S.Service.asks g.S.Service.printing
     s c.args.session.now left (g.L.Link.left c.args.link.now) (g.L.Link.left c.next_request.new.link) taken (g.L.Link.taken c.args.link.now) (g.L.Link.taken c.next_request.new.link)
     c.args.room.now.inbox.held n.0 Closed h n.1.0 c.in-Closed.ensures.keeps_taken n.1.1
 
 pub returns-in-Cut-clause-proceeds : goal.returns-in-Cut-clause-proceeds
 returns-in-Cut-clause-proceeds g c s left taken h =
     let n = c.in-Cut.ensures.answers in
-    stopped g.M.Machine.step g.J.BoardName.opening g.S.Answers.least g.S.Answers.answer g.S.Service.asks g.S.Service.printing
+    stopped g.M.Machine.step g.J.BoardName.opening g.S.Answers.least (answering g.S.Answers.answer g.S.Answers.between) g.S.Service.asks g.S.Service.printing
     s c.args.session.now left (g.L.Link.left c.args.link.now) (g.L.Link.left c.next_request.new.link) taken (g.L.Link.taken c.args.link.now) (g.L.Link.taken c.next_request.new.link)
     c.args.room.now.inbox.held n.0 (Cut c.in-Cut.bytes) h n.1.0 c.in-Cut.ensures.keeps_taken n.1.1
 
 pub returns-in-ReadFault-clause-proceeds : goal.returns-in-ReadFault-clause-proceeds
 returns-in-ReadFault-clause-proceeds g c s left taken h =
     let n = c.in-ReadFault.ensures.answers in
-    stopped g.M.Machine.step g.J.BoardName.opening g.S.Answers.least g.S.Answers.answer g.S.Service.asks g.S.Service.printing
+    stopped g.M.Machine.step g.J.BoardName.opening g.S.Answers.least (answering g.S.Answers.answer g.S.Answers.between) g.S.Service.asks g.S.Service.printing
     s c.args.session.now left (g.L.Link.left c.args.link.now) (g.L.Link.left c.next_request.new.link) taken (g.L.Link.taken c.args.link.now) (g.L.Link.taken c.next_request.new.link)
     c.args.room.now.inbox.held n.0 ReadFault h n.1.0 c.in-ReadFault.ensures.keeps_taken n.1.1

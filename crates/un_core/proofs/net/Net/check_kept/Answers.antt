@@ -1,6 +1,5 @@
 use Rattle.std.proofs.Common.{◌∷◌, [], sym, subst}
 use Rattle.std.proofs.lemmas.Result.{IfOk-weaker}
-use Rattle.un_defs.specs.declared.walk.Mode.TheVariants.{Any}
 use Rattle.un_defs.specs.Ground.{Ground}
 use Rattle.un_index.specs.Kept.{stars_of}
 use Rattle.un_path.specs.Answer.{IsReachFrom, HaveOwnPortsOnCleanGround, IsCheckAnswer}
@@ -13,7 +12,7 @@ check-requires-clause-own_ports g c =
     let s = c.args.self.now in
     let ask = c.args.ask.now in
     subst (λ (G : Ground). HaveOwnPortsOnCleanGround G ask.barriers ask.from)
-    (λ i. record { stars = stars_of (sym c.kept-kept.ensures.stars i); areas = sym c.kept-kept.ensures.areas i })
+    (λ i. record { stars = stars_of (sym c.kept_ground-kept.ensures.stars i); areas = sym c.kept_ground-kept.ensures.areas i })
     (kept_own_ports s c.version-version.ensures.state ask.barriers c.requires.consistent ask.from c.requires.from)
 
 pub returns-clause-reply : goal.returns-clause-reply
@@ -23,7 +22,7 @@ returns-clause-reply g c =
     IfOk-weaker c.check.result _ _
     (λ reply is. kept_answer s ask reply
     (subst (λ (G : Ground). IsCheckAnswer G ask reply)
-    (λ i. record { stars = stars_of (c.kept-kept.ensures.stars i); areas = c.kept-kept.ensures.areas i }) is))
+    (λ i. record { stars = stars_of (c.kept_ground-kept.ensures.stars i); areas = c.kept_ground-kept.ensures.areas i }) is))
     c.check.ensures.answer
 
 pub returns-clause-ticks : goal.returns-clause-ticks
@@ -32,5 +31,5 @@ returns-clause-ticks g c =
     let ask = c.args.ask.now in
     c.check.ensures.ticks (reached_any (kept_survey s) ask.barriers (ask.from ∷ []))
     (subst (λ (G : Ground). IsReachFrom G ask.barriers ask.from (reached_any (kept_survey s) ask.barriers (ask.from ∷ [])))
-    (λ i. record { stars = stars_of (sym c.kept-kept.ensures.stars i); areas = sym c.kept-kept.ensures.areas i })
+    (λ i. record { stars = stars_of (sym c.kept_ground-kept.ensures.stars i); areas = sym c.kept_ground-kept.ensures.areas i })
     (kept_any s ask.barriers (ask.from ∷ [])))

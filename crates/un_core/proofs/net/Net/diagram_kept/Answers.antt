@@ -12,7 +12,7 @@ diagram-requires-clause-linked g c =
     let s = c.args.self.now in
     let ask = c.args.ask.now in
     subst (λ (G : Ground). AreLinkedOnCleanGround G ask)
-    (λ i. record { stars = stars_of (sym c.kept-kept.ensures.stars i); areas = sym c.kept-kept.ensures.areas i })
+    (λ i. record { stars = stars_of (sym c.kept_ground-kept.ensures.stars i); areas = sym c.kept_ground-kept.ensures.areas i })
     (kept_are_linked s c.version-version.ensures.state ask.barriers c.requires.consistent ask.starts c.requires.starts)
 
 pub returns-clause-reply : goal.returns-clause-reply
@@ -22,7 +22,7 @@ returns-clause-reply g c =
     IfOk-weaker c.diagram.result _ _
     (λ reply is. kept_answer s ask reply
     (subst (λ (G : Ground). IsAnswer G ask reply)
-    (λ i. record { stars = stars_of (c.kept-kept.ensures.stars i); areas = c.kept-kept.ensures.areas i }) is))
+    (λ i. record { stars = stars_of (c.kept_ground-kept.ensures.stars i); areas = c.kept_ground-kept.ensures.areas i }) is))
     c.diagram.ensures.answer
 
 pub returns-clause-ticks : goal.returns-clause-ticks
@@ -31,5 +31,5 @@ returns-clause-ticks g c =
     let ask = c.args.ask.now in
     c.diagram.ensures.ticks (reached_any (kept_survey s) ask.barriers ask.starts)
     (subst (λ (G : Ground). IsReachOf G ask (reached_any (kept_survey s) ask.barriers ask.starts))
-    (λ i. record { stars = stars_of (sym c.kept-kept.ensures.stars i); areas = sym c.kept-kept.ensures.areas i })
+    (λ i. record { stars = stars_of (sym c.kept_ground-kept.ensures.stars i); areas = sym c.kept_ground-kept.ensures.areas i })
     (kept_any s ask.barriers ask.starts))

@@ -24,7 +24,7 @@ isolate-requires g c =
     record {
       kind = c.requires.kind;
       fit = subst (λ (G : Ground). IsFitOnCleanGround G ask)
-          (λ i. record { stars = stars_of (sym c.kept-kept.ensures.stars i); areas = sym c.kept-kept.ensures.areas i })
+          (λ i. record { stars = stars_of (sym c.kept_ground-kept.ensures.stars i); areas = sym c.kept_ground-kept.ensures.areas i })
           (λ reached reach clean. is_fit s is ask c.requires.kind c.requires.starts c.requires.clear reached reach clean);
     }
 
@@ -35,7 +35,7 @@ returns-clause-reply g c =
     IfOk-weaker c.isolate.result _ _
     (λ reply is. isolation_answer s ask reply c.requires.kind.kind
     (subst (λ (G : Ground). IsAnswer G ask reply)
-    (λ i. record { stars = stars_of (c.kept-kept.ensures.stars i); areas = c.kept-kept.ensures.areas i }) is))
+    (λ i. record { stars = stars_of (c.kept_ground-kept.ensures.stars i); areas = c.kept_ground-kept.ensures.areas i }) is))
     c.isolate.ensures.answer
 
 pub returns-clause-ticks : goal.returns-clause-ticks
@@ -48,7 +48,7 @@ returns-clause-ticks g c =
     (reached_reaches (kept_survey s) (kept_points s.kept) ask.barriers (mode_of ask.kind) ask.starts) in
     c.isolate.ensures.ticks nodes
     (subst (λ (G : Ground). IsReach (leads G ask.barriers Any) ask.starts nodes)
-    (λ i. record { stars = stars_of (sym c.kept-kept.ensures.stars i); areas = sym c.kept-kept.ensures.areas i }) reach)
+    (λ i. record { stars = stars_of (sym c.kept_ground-kept.ensures.stars i); areas = sym c.kept_ground-kept.ensures.areas i }) reach)
     (subst (λ (G : Ground). IsLookedUpOnce G ask.barriers)
-    (λ i. record { stars = stars_of (sym c.kept-kept.ensures.stars i); areas = sym c.kept-kept.ensures.areas i })
+    (λ i. record { stars = stars_of (sym c.kept_ground-kept.ensures.stars i); areas = sym c.kept_ground-kept.ensures.areas i })
     (inr (λ n t _ stands path. c.version-version.ensures.state.paths n t stands path)))

@@ -18,7 +18,7 @@ returns-clause-reply g c =
     IfOk-weaker c.trace.result _ _
     (λ reply is. answer_kept s ask reply (no_loops ask.kind ask.barriers.tier c.requires.kind) (no_isolation ask.kind ask.barriers.tier c.requires.kind)
     (subst (λ (G : Ground). IsAnswer G ask reply)
-    (λ i. record { stars = stars_of (c.kept-kept.ensures.stars i); areas = c.kept-kept.ensures.areas i }) is))
+    (λ i. record { stars = stars_of (c.kept_ground-kept.ensures.stars i); areas = c.kept_ground-kept.ensures.areas i }) is))
     c.trace.ensures.answer
 
 pub returns-clause-ticks : goal.returns-clause-ticks
@@ -27,8 +27,8 @@ returns-clause-ticks g c =
     let ask = c.args.ask.now in
     c.trace.ensures.ticks (reached_from (kept_survey s) ask)
     (subst (λ (G : Ground). IsReach (leads G ask.barriers (mode_of ask.kind)) ask.starts (reached_from (kept_survey s) ask))
-    (λ i. record { stars = stars_of (sym c.kept-kept.ensures.stars i); areas = sym c.kept-kept.ensures.areas i })
+    (λ i. record { stars = stars_of (sym c.kept_ground-kept.ensures.stars i); areas = sym c.kept_ground-kept.ensures.areas i })
     (reached_reaches (kept_survey s) (kept_points s.kept) ask.barriers (mode_of ask.kind) ask.starts))
     (subst (λ (G : Ground). IsLookedUpOnce G ask.barriers)
-    (λ i. record { stars = stars_of (sym c.kept-kept.ensures.stars i); areas = sym c.kept-kept.ensures.areas i })
+    (λ i. record { stars = stars_of (sym c.kept_ground-kept.ensures.stars i); areas = sym c.kept_ground-kept.ensures.areas i })
     (inr (λ n t _ stands path. c.version-version.ensures.state.paths n t stands path)))

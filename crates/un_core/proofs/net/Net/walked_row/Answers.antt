@@ -16,7 +16,7 @@ row_in_reply-requires c =
     let ask = c.args.ask.now in
     let nodes = reached (kept_survey s) ask.barriers Any ask.starts in
     let of_kept = walk_kept s ask c.in_ok-reply.reply (subst (λ (G : Ground). IsAnswer G ask c.in_ok-reply.reply)
-    (λ i. record { stars = stars_of (c.kept-kept.ensures.stars i); areas = c.kept-kept.ensures.areas i }) c.in_ok-reply.ensures.answer) in
+    (λ i. record { stars = stars_of (c.kept_ground-kept.ensures.stars i); areas = c.kept_ground-kept.ensures.areas i }) c.in_ok-reply.ensures.answer) in
     subst IsOfWalk (sym of_kept) (of_walk (kept_ground s) ask nodes)
 
 pub returns-clause-row : goal.returns-clause-row
@@ -25,7 +25,7 @@ returns-clause-row c =
     let ask = c.args.ask.now in
     let nodes = reached (kept_survey s) ask.barriers Any ask.starts in
     let of_kept = walk_kept s ask c.in_ok-reply.reply (subst (λ (G : Ground). IsAnswer G ask c.in_ok-reply.reply)
-    (λ i. record { stars = stars_of (c.kept-kept.ensures.stars i); areas = c.kept-kept.ensures.areas i }) c.in_ok-reply.ensures.answer) in
+    (λ i. record { stars = stars_of (c.kept_ground-kept.ensures.stars i); areas = c.kept_ground-kept.ensures.areas i }) c.in_ok-reply.ensures.answer) in
     subst (λ r. IfOk r (λ row. row ≡ row_of ask nodes)) (sym (c.row_in_reply.ensures ∙ ap row_in_reply of_kept)) (row_where (kept_ground s) ask nodes)
 
 pub returns-clause-good : goal.returns-clause-good
@@ -34,7 +34,7 @@ returns-clause-good c =
     let ask = c.args.ask.now in
     let nodes = reached (kept_survey s) ask.barriers Any ask.starts in
     let of_kept = walk_kept s ask c.in_ok-reply.reply (subst (λ (G : Ground). IsAnswer G ask c.in_ok-reply.reply)
-    (λ i. record { stars = stars_of (c.kept-kept.ensures.stars i); areas = c.kept-kept.ensures.areas i }) c.in_ok-reply.ensures.answer) in
+    (λ i. record { stars = stars_of (c.kept_ground-kept.ensures.stars i); areas = c.kept_ground-kept.ensures.areas i }) c.in_ok-reply.ensures.answer) in
     subst (λ r. OnOk r (walk_refusal (kept_ground s) ask nodes ≡ None)) (sym (c.row_in_reply.ensures ∙ ap row_in_reply of_kept)) (none_where (kept_ground s) ask nodes)
 
 pub returns-clause-bad : goal.returns-clause-bad
@@ -43,5 +43,5 @@ returns-clause-bad c =
     let ask = c.args.ask.now in
     let nodes = reached (kept_survey s) ask.barriers Any ask.starts in
     let of_kept = walk_kept s ask c.in_ok-reply.reply (subst (λ (G : Ground). IsAnswer G ask c.in_ok-reply.reply)
-    (λ i. record { stars = stars_of (c.kept-kept.ensures.stars i); areas = c.kept-kept.ensures.areas i }) c.in_ok-reply.ensures.answer) in
+    (λ i. record { stars = stars_of (c.kept_ground-kept.ensures.stars i); areas = c.kept_ground-kept.ensures.areas i }) c.in_ok-reply.ensures.answer) in
     subst (λ r. Refuses r (walk_refusal (kept_ground s) ask nodes)) (sym (c.row_in_reply.ensures ∙ ap row_in_reply of_kept)) (refused_where (kept_ground s) ask nodes)
