@@ -1,0 +1,16 @@
+pub mod Shows
+pub mod Sorted
+pub mod Fields
+pub mod Numbered
+pub mod ReadChanges
+pub mod Rising
+pub mod Known
+pub mod PartsBack
+pub mod NamesBack
+pub mod AttrsBack
+pub mod EntriesBack
+pub mod PageForms
+pub mod PageNumbers
+pub mod PageTexts
+pub mod PageBack
+pub mod TextsRead

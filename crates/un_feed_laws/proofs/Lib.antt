@@ -1,0 +1,13 @@
+pub mod Nodes
+pub mod FreshLinks
+pub mod FreshErrors
+pub mod FreshStars
+pub mod FreshPlaces
+pub mod Given
+pub mod RowsKept
+pub mod LinksKept
+pub mod EditsKept
+pub mod Paging
+pub mod CommandsKept
+pub mod LogsKept
+pub mod PagesSound
