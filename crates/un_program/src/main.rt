@@ -1,5 +1,6 @@
-//! The utility network program: `script` runs a script from standard input to standard output, `make` writes the line of a
-//! generated network, and `serve` answers HTTP requests on the loopback under the schema that it reads from standard input.
+//! The utility network program: `script` runs a script from standard input to standard output, `follow` keeps a copy of a
+//! server's topology from the pages on standard input, `make` writes the line of a generated network, and `serve` answers
+//! HTTP requests on the loopback under the schema that it reads from standard input.
 #![tactic(auto)]
 
 use std::net::{Ipv4Addr, SocketAddr, TcpListener};
@@ -38,7 +39,7 @@ fn no_words(fault: &io::Error) -> u8 {
     }
 }
 
-// Runs a script from standard input to standard output, or writes the line of a generated network.
+// Runs a script or a follower from standard input to standard output, or writes the line of a generated network.
 fn script(rt: &HostRuntime, words: &[Word]) -> u8 {
     let mut source = ReadSource::new(rt.stdin());
     let mut sink = WriteSink::new(rt.stdout());
@@ -67,7 +68,9 @@ fn main(rt: HostRuntime) -> ExitCode {
         Err(fault) => no_words(&fault),
     };
     if status == NO_COMMAND {
-        let _ = eprintln!(rt; "usage: un_program script | make SEED COUNT | serve PORT WORKERS");
+        let _ = eprintln!(rt;
+            "usage: un_program script | follow | make SEED COUNT | serve PORT WORKERS"
+        );
     }
     ExitCode::from(status)
 }

@@ -2,6 +2,7 @@
 //! bodies that are refused.
 ghost use Rattle.std.specs.Prelude.{◌≡◌, ◌∷◌, []};
 
+mod changes;
 mod doors;
 mod gated;
 mod heads;

@@ -2,6 +2,7 @@
 //! lines that are no requests.
 
 mod devices;
+mod follow;
 mod forms;
 mod hostile;
 mod joints;
@@ -78,11 +79,23 @@ fn plan(alloc: Global, calls: Calls) -> Result<Plan, AllocError> {
 fn gives(
     alloc: Global,
     input: &[u8],
+    calls: (Calls, Calls),
+    status: u8,
+    output: &[u8],
+) -> Result<bool, AllocError> {
+    gives_by(alloc, "script", input, calls, status, output)
+}
+
+// Whether the command of this word ends with this status and exactly this output.
+fn gives_by(
+    alloc: Global,
+    word: &str,
+    input: &[u8],
     (source, sink): (Calls, Calls),
     status: u8,
     output: &[u8],
 ) -> Result<bool, AllocError> {
-    let words = words_of(alloc, &["script"])?;
+    let words = words_of(alloc, &[word])?;
     let (source, sink) = (plan(alloc, source)?, plan(alloc, sink)?);
     let (ended, sink) = run(alloc, words.as_slice(), input, source, sink)?;
     Ok(ended == status && sink.bytes() == output)
@@ -116,12 +129,12 @@ fn texts(alloc: Global, row: &Row) -> Result<(Vec<u8>, Vec<u8>), AllocError> {
 // The most bytes that a call moves.
 const SIZES: [usize; 6] = [usize::MAX, 1, 2, 3, 7, 4_096];
 
-// Whether a script has its replies, whatever pieces it is read and written in.
-fn has_replies(alloc: Global, row: &Row) -> Result<bool, AllocError> {
+// Whether the lines have their replies, whatever pieces they are read and written in.
+fn has_replies(alloc: Global, word: &str, row: &Row) -> Result<bool, AllocError> {
     let (input, output) = texts(alloc, row)?;
     for size in SIZES {
         let calls = Calls { size, ..WHOLE };
-        if !gives(alloc, &input, (calls, calls), 0, &output)? {
+        if !gives_by(alloc, word, &input, (calls, calls), 0, &output)? {
             return Ok(false);
         }
     }
@@ -131,7 +144,7 @@ fn has_replies(alloc: Global, row: &Row) -> Result<bool, AllocError> {
 // The first script that has other replies.
 fn first_other(alloc: Global) -> Result<Option<&'static str>, AllocError> {
     for row in table::ROWS {
-        if !has_replies(alloc, &row)? {
+        if !has_replies(alloc, "script", &row)? {
             return Ok(Some(row.name));
         }
     }

@@ -1,141 +1,78 @@
--- What a script's status says, by how its lines ended.
-use Rattle.std.proofs.Common.{◌≡◌, ◌≢◌, ◌⊎◌, inl, inr, ℕ, ◌<◌, ◌≤◌, true, false, List, [], Option, None, Some, length, refl}
+-- What the status of a script says by its states, it says by its accepted commands.
+use Rattle.std.proofs.Common.{◌≡◌, ◌≢◌, ◌⊎◌, inl, inr, ℕ, Bool, true, false, List, [], ◌++◌, Option, None, Some, is_some, Result, Ok, Err, is_ok, length, refl, sym, ◌∙◌}
 use Rattle.std.specs.Io.KnownBytes.{IsAtEnd}
-use Rattle.un_io.specs.Outside.{Rose}
-use Rattle.un_lines.specs.Cut.{most_bytes, lines_of}
-use Rattle.un_lines.specs.Due.{Opens, IsServed, IsRefused, IsInterrupted, first_of}
-use Rattle.un_lines.specs.Ending.{Ran, Ran-weaker}
-use Rattle.un_lines.specs.declared.run.Ending.{Ending}
-use Rattle.un_lines.specs.declared.run.Ending.TheVariants as ending
-use Rattle.un_core.specs.State.{State}
-use Rattle.un_script.specs.Script.{script}
+use Rattle.un_lines.specs.Cut.{lines_of}
+use Rattle.un_lines.specs.Due.{First, Opens, Refuses, Missing, IsCutShort, first_of}
+use Rattle.un_lines.specs.Ending.{Ran-weaker}
+use Rattle.un_schema.specs.declared.place.Place.{Place}
+use Rattle.un_schema.specs.Catalog.{Catalog}
+use Rattle.un_tiers.specs.declared.tier.Tier.{Tier}
+use Rattle.un_schema_json.specs.Lines.{schema_of}
+use Rattle.un_script.specs.Opening.{OpensBySchema, IsServedBy, IsUnrefusedBy, IsRefusedAs}
+use Rattle.un_script.specs.Statuses.{RunsBy}
+use Rattle.un_script.specs.Script.{script, opened_by}
+use Rattle.un_script.specs.History.{Headline, by_history}
 use Rattle.un_script.specs.Runs.{RunsScript}
-use Rattle.un_script.specs.History.{Headline}
-use Rattle.un_script.proofs.Refusals.{refused_alone, served_opened, served_unrefused}
-use Rattle.un_script.proofs.History.{ended_so, lines_so, cuts_so}
 
-module _ (left left' taken taken' : Option (List ℕ)) (reads reads' writes writes' : ℕ) (headline : Headline) where
-  -- the status with what it says
-  abbrev pub Says : ℕ → Type 0
-  Says status = RunsScript left left' taken taken' reads reads' writes writes' status
+-- a schema opens a script, and nothing else does
+pub opens_by_schema : OpensBySchema script
+opens_by_schema = record {
+  opens = λ line. opens (schema_of line);
+  refuses = λ line. refl;
+  refuses_too_long = refl;
+  refuses_missing = refl;
+}
+  where
+    opens : (r : Result (Catalog × List Tier) Place) → is_some (opened_by r) ≡ is_ok r
+    opens (Err place) = refl
+    opens (Ok schema) = refl
 
-  -- with a schema and no fault, a run ends at the end of the input, or for want of memory
-  abbrev pub Completes : Ending → Type 0
-  Completes end = (bytes : List ℕ) → left ≡ Some bytes → first_of script (lines_of true bytes) ≡ Opens → length bytes < most_bytes
-      → end ≢ ending.SourceFault → end ≢ ending.SinkFault → (end ≡ ending.Ended) ⊎ (end ≡ ending.Memory)
+module _ (laws : Headline) where
+  served : (read out : List ℕ) → IsServedBy script read true Opens out → IsServedBy by_history read true Opens out
+  served read out is = record { is_due = is.is_due ∙ laws.same_due read true out; first_is = sym (laws.same_first read true) ∙ is.first_is }
 
-  pub ended : (state : Option State) → Ran left left' taken taken' (λ read out. (length read < most_bytes) × IsServed script read true state out) → state ≢ None → IsAtEnd left' → Says 0
-  ended state ran opened at_end = record {
-    ended = λ e. Ran-weaker _ _ _ _ _ _ ran (λ read out served. (served.0, served_opened read _ out opened served.1));
-    ended_by_history = λ e. Ran-weaker _ _ _ _ _ _ ran (λ read out served. (served.0, ended_so headline read _ out opened served.1));
-    at_end = λ e. at_end;
-    source_fault = λ e. cc;
-    source_fault_by_history = λ e. cc;
-    source_cause = λ e. cc;
-    sink_fault = λ e. cc;
-    sink_fault_by_history = λ e. cc;
-    sink_cause = λ e. cc;
-    refused = λ e. cc;
-    no_memory = λ e. cc;
-    limit = λ e. cc;
-    limit_by_history = λ e. cc;
-    complete = λ bytes given opens short source sink. inl refl;
-  }
+  unrefused : (read out : List ℕ) → IsUnrefusedBy script read out → IsUnrefusedBy by_history read out
+  unrefused read out is = record { is_due = is.is_due ∙ laws.same_due read false out; first_is = λ e. is.first_is (laws.same_first read false ∙ e) }
 
-  pub source_fault : (state : Option State) → Ran left left' taken taken' (λ read out. (length read < most_bytes) × IsServed script read false state out) → Rose reads reads' → Says 3
-  source_fault state ran cause = record {
-    ended = λ e. cc;
-    ended_by_history = λ e. cc;
-    at_end = λ e. cc;
-    source_fault = λ e. Ran-weaker _ _ _ _ _ _ ran (λ read out served. (served.0, served_unrefused read _ out served.1));
-    source_fault_by_history = λ e. Ran-weaker _ _ _ _ _ _ ran (λ read out served. (served.0, lines_so headline read out (served_unrefused read _ out served.1)));
-    source_cause = λ e. cause;
-    sink_fault = λ e. cc;
-    sink_fault_by_history = λ e. cc;
-    sink_cause = λ e. cc;
-    refused = λ e. cc;
-    no_memory = λ e. cc;
-    limit = λ e. cc;
-    limit_by_history = λ e. cc;
-    complete = λ bytes given opens short source sink. absurd (source cause);
-  }
+  cut : (read : List ℕ) (ended : Bool) (out : List ℕ) → IsCutShort script read ended out → IsCutShort by_history read ended out
+  cut read ended out is = record { prefix = (is.prefix.0, is.prefix.1 ∙ laws.same_due read ended (out ++ is.prefix.0)); more = is.more }
 
-  pub sink_fault : Ran left left' taken taken' (λ read out. IsInterrupted script read left' out) → Rose writes writes' → Says 4
-  sink_fault ran cause = record {
-    ended = λ e. cc;
-    ended_by_history = λ e. cc;
-    at_end = λ e. cc;
-    source_fault = λ e. cc;
-    source_fault_by_history = λ e. cc;
-    source_cause = λ e. cc;
-    sink_fault = λ e. Ran-weaker _ _ _ _ _ _ ran (λ read out cut. cut);
-    sink_fault_by_history = λ e. Ran-weaker _ _ _ _ _ _ ran (λ read out cut. let both = cuts_so headline read out _ (cut.1, cut.2) in (cut.0, both.0, both.1));
-    sink_cause = λ e. cause;
-    refused = λ e. cc;
-    no_memory = λ e. cc;
-    limit = λ e. cc;
-    limit_by_history = λ e. cc;
-    complete = λ bytes given opens short source sink. absurd (sink cause);
-  }
+  cut_or_ended : (read out : List ℕ) (left : Option (List ℕ)) → IsCutShort script read false out ⊎ IsAtEnd left → IsCutShort by_history read false out ⊎ IsAtEnd left
+  cut_or_ended read out left (inl is) = inl (cut read false out is)
+  cut_or_ended read out left (inr end) = inr end
 
-  pub refused : Ran left left' taken taken' (λ read out. (length read ≤ most_bytes) × IsRefused script read left' out) → Completes ending.Refused → Says 6
-  refused ran completes = record {
-    ended = λ e. cc;
-    ended_by_history = λ e. cc;
-    at_end = λ e. cc;
-    source_fault = λ e. cc;
-    source_fault_by_history = λ e. cc;
-    source_cause = λ e. cc;
-    sink_fault = λ e. cc;
-    sink_fault_by_history = λ e. cc;
-    sink_cause = λ e. cc;
-    refused = λ e. Ran-weaker _ _ _ _ _ _ ran (λ read out refused. (refused.0, refused_alone read _ out refused.1));
-    no_memory = λ e. cc;
-    limit = λ e. cc;
-    limit_by_history = λ e. cc;
-    complete = λ bytes given opens short source sink. absurd (neither (completes bytes given opens short (λ e. cc) (λ e. cc)));
-  }
-    where
-      neither : (ending.Refused ≡ ending.Ended) ⊎ (ending.Refused ≡ ending.Memory) → ⊥
-      neither (inl e) = cc
-      neither (inr e) = cc
+  turned_away : (ended : Bool) (one other : First) → one ≡ other → (one ≡ Refuses) ⊎ ((ended ≡ true) × (one ≡ Missing)) → (other ≡ Refuses) ⊎ ((ended ≡ true) × (other ≡ Missing))
+  turned_away ended one other same (inl is) = inl (sym same ∙ is)
+  turned_away ended one other same (inr is) = inr (is.0, sym same ∙ is.1)
 
-  pub memory : Ran left left' taken taken' (λ read out. (length read ≤ most_bytes) × (out ≡ [])) → Says 7
-  memory ran = record {
-    ended = λ e. cc;
-    ended_by_history = λ e. cc;
-    at_end = λ e. cc;
-    source_fault = λ e. cc;
-    source_fault_by_history = λ e. cc;
-    source_cause = λ e. cc;
-    sink_fault = λ e. cc;
-    sink_fault_by_history = λ e. cc;
-    sink_cause = λ e. cc;
-    refused = λ e. cc;
-    no_memory = λ e. ran;
-    limit = λ e. cc;
-    limit_by_history = λ e. cc;
-    complete = λ bytes given opens short source sink. inr refl;
-  }
+  refused : (read : List ℕ) (left : Option (List ℕ)) (out : List ℕ) → IsRefusedAs script read left out → IsRefusedAs by_history read left out
+  refused read left out is =
+      let r = is.refused in
+      record {
+        refused = record {
+          ended = r.ended;
+          is_due = r.is_due ∙ laws.same_due read r.ended out;
+          at_end = r.at_end;
+          below = r.below;
+          first = turned_away r.ended _ _ (laws.same_first read r.ended) r.first;
+        };
+        alone = is.alone;
+      }
 
-  pub limit : (state : Option State) → Ran left left' taken taken' (λ read out. (length read ≡ most_bytes) × IsServed script read false state out) → Completes ending.Limit → Says 8
-  limit state ran completes = record {
-    ended = λ e. cc;
-    ended_by_history = λ e. cc;
-    at_end = λ e. cc;
-    source_fault = λ e. cc;
-    source_fault_by_history = λ e. cc;
-    source_cause = λ e. cc;
-    sink_fault = λ e. cc;
-    sink_fault_by_history = λ e. cc;
-    sink_cause = λ e. cc;
-    refused = λ e. cc;
-    no_memory = λ e. cc;
-    limit = λ e. Ran-weaker _ _ _ _ _ _ ran (λ read out served. (served.0, served_unrefused read _ out served.1));
-    limit_by_history = λ e. Ran-weaker _ _ _ _ _ _ ran (λ read out served. (served.0, lines_so headline read out (served_unrefused read _ out served.1)));
-    complete = λ bytes given opens short source sink. absurd (neither (completes bytes given opens short (λ e. cc) (λ e. cc)));
-  }
-    where
-      neither : (ending.Limit ≡ ending.Ended) ⊎ (ending.Limit ≡ ending.Memory) → ⊥
-      neither (inl e) = cc
-      neither (inr e) = cc
+  module _ (left left' taken taken' : Option (List ℕ)) (reads reads' writes writes' status : ℕ) (runs : RunsBy script left left' taken taken' reads reads' writes writes' status) where
+    by_commands : RunsBy by_history left left' taken taken' reads reads' writes writes' status
+    by_commands = record {
+      ended = λ e. Ran-weaker _ _ _ _ _ _ (runs.ended e) (λ read out is. (is.0, served read out is.1));
+      at_end = runs.at_end;
+      source_fault = λ e. Ran-weaker _ _ _ _ _ _ (runs.source_fault e) (λ read out is. (is.0, unrefused read out is.1));
+      source_cause = runs.source_cause;
+      sink_fault = λ e. Ran-weaker _ _ _ _ _ _ (runs.sink_fault e) (λ read out is. (is.0, cut read true out is.1, cut_or_ended read out left' is.2));
+      sink_cause = runs.sink_cause;
+      refused = λ e. Ran-weaker _ _ _ _ _ _ (runs.refused e) (λ read out is. (is.0, refused read left' out is.1));
+      no_memory = runs.no_memory;
+      limit = λ e. Ran-weaker _ _ _ _ _ _ (runs.limit e) (λ read out is. (is.0, unrefused read out is.1));
+      complete = λ bytes given opens short. runs.complete bytes given (laws.same_first bytes true ∙ opens) short;
+    }
+
+    pub runs_script : RunsScript left left' taken taken' reads reads' writes writes' status
+    runs_script = record { by_states = runs; by_commands = by_commands }

@@ -1,8 +1,6 @@
 -- What is due by the states of a network is what is due by the schema's line and the accepted commands alone.
-use Rattle.std.proofs.Common.{◌≡◌, ◌≢◌, ◌⊎◌, inl, inr, ℕ, Bool, true, false, List, ◌++◌, Option, None, Some, Result, Ok, Err, refl, sym, ap, ◌∙◌}
-use Rattle.std.specs.Io.KnownBytes.{IsAtEnd}
+use Rattle.std.proofs.Common.{◌≡◌, ℕ, List, Option, None, Some, Result, Ok, Err, refl, ap}
 use Rattle.un_lines.specs.Cut.{lines_of}
-use Rattle.un_lines.specs.Due.{Opens, IsServed, IsCutShort}
 use Rattle.un_lines.specs.Alike.{BothOpen, AreAlike, same_due, same_first, state_behind}
 use Rattle.un_schema.specs.declared.place.Place.{Place}
 use Rattle.un_schema.specs.Catalog.{Catalog}
@@ -16,7 +14,8 @@ use Rattle.un_replies.specs.Replies.{print}
 use Rattle.un_core.specs.State.{State}
 use Rattle.un_core.specs.Accepted.{IsAfter, OpeningLaw}
 use Rattle.un_core.specs.Requests.{FaithfulLaw, BehindLaw}
-use Rattle.un_script.specs.Script.{script, setup_of, opened_by as state_opened, reply_to_line, state_behind_line, IsServedBy, IsUnrefusedBy}
+use Rattle.un_script.specs.Opening.{setup_of}
+use Rattle.un_script.specs.Script.{script, opened_by as state_opened, reply_to_line, state_behind_line}
 use Rattle.un_script.specs.History.{History, opened_by, reply_after_line, history_behind_line, by_history, StateLaw, Headline}
 
 -- the state is the one after the history
@@ -61,27 +60,3 @@ module _ (schemas : SchemaLaw) (opening : OpeningLaw) (faithful : FaithfulLaw) (
     same_due = same_due Agree script by_history alike;
     same_first = λ read ended. same_first Agree script by_history alike (lines_of ended read);
   }
-
--- ---- the endings of a run
-
-module _ (laws : Headline) where
-  -- the input has ended
-  pub ended_so : (read : List ℕ) (state : Option State) (out : List ℕ) → state ≢ None → IsServed script read true state out → IsServedBy by_history read true Opens out
-  ended_so read None out opened served = absurd (opened refl)
-  ended_so read (Some s) out opened served = record { is_due = served.is_due ∙ laws.same_due read true out; first_is = sym (laws.same_first read true) ∙ served.first }
-
-  -- only whole lines have come
-  pub lines_so : (read : List ℕ) (out : List ℕ) → IsUnrefusedBy script read out → IsUnrefusedBy by_history read out
-  lines_so read out served = record { is_due = served.is_due ∙ laws.same_due read false out; first_is = λ e. served.first_is (laws.same_first read false ∙ e) }
-
-  cut_so : (read : List ℕ) (ended : Bool) (out : List ℕ) → IsCutShort script read ended out → IsCutShort by_history read ended out
-  cut_so read ended out cut = record { prefix = (cut.prefix.0, cut.prefix.1 ∙ laws.same_due read ended (out ++ cut.prefix.0)); more = cut.more }
-
-  -- the sink has failed
-  pub cuts_so : (read out : List ℕ) (left : Option (List ℕ)) → IsCutShort script read true out × (IsCutShort script read false out ⊎ IsAtEnd left)
-      → IsCutShort by_history read true out × (IsCutShort by_history read false out ⊎ IsAtEnd left)
-  cuts_so read out left both = (cut_so read true out both.0, go both.1)
-    where
-      go : IsCutShort script read false out ⊎ IsAtEnd left → IsCutShort by_history read false out ⊎ IsAtEnd left
-      go (inl cut) = inl (cut_so read false out cut)
-      go (inr end) = inr end

@@ -1,5 +1,6 @@
-pub mod Texts
+mod OpeningTexts
 pub mod Refusals
+pub mod Statuses
 pub mod History
 mod Samples
 pub mod BuiltIn
@@ -7,3 +8,5 @@ pub mod Requests
 pub mod Runs
 pub mod Endings
 pub mod Commands
+mod FollowTexts
+mod FollowOpens

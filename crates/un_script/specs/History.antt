@@ -16,7 +16,8 @@ use Rattle.un_replies.specs.Replies.{print}
 use Rattle.un_tiers.specs.declared.setup.Setup.{Setup}
 use Rattle.un_core.specs.State.{State}
 use Rattle.un_core.specs.Requests.{reply_after, history_behind, IsFaithful}
-use Rattle.un_script.specs.Script.{script, setup_of}
+use Rattle.un_script.specs.Opening.{setup_of}
+use Rattle.un_script.specs.Script.{script}
 
 -- what a script has come to: its schema and tiers, and its accepted commands, the last one first
 pub record History : Type 0 where

@@ -1,5 +1,9 @@
+pub mod Opening
+pub mod Statuses
 pub mod Script
 pub mod History
 pub mod Replies
+pub mod Following
+pub mod FollowReplies
 pub mod Made
 pub mod Runs

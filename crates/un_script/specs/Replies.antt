@@ -15,7 +15,8 @@ use Rattle.un_replies.specs.Lines.{reply_line, reply_other}
 use Rattle.un_core.specs.State.{State}
 use Rattle.un_core.specs.Answers.{kept_basis}
 use Rattle.un_core.specs.NoMemory.{command_is_no_memory, answer_is_no_memory}
-use Rattle.un_script.specs.Script.{script, bad_schema, bad_place, line_too_long, reply_to_line}
+use Rattle.un_script.specs.Opening.{bad_schema, bad_place, line_too_long}
+use Rattle.un_script.specs.Script.{script, reply_to_line}
 
 -- ---- lines
 
@@ -40,6 +41,7 @@ line_is_no_memory s text = go (ask text) (never_memory text)
     go (Ok (request.Command c)) other = command_is_no_memory s c
     go (Ok (request.Query q)) other = answer_is_no_memory s (kept_basis s) q
     go (Ok (request.Past q)) other = λ e. cc
+    go (Ok (request.Changes q)) other = λ e. cc
 
 pub script_is_plain : IsPlain script
 script_is_plain = record {

@@ -1,9 +1,11 @@
-//! A network that is edited and asked by lines of JSON.
+//! The commands over lines of JSON: a network that is edited and asked, and a copy that follows a server's.
 #![tactic(auto)]
 
-mod handler;
+mod follow;
 mod laws;
 mod make;
+mod opening;
 mod run;
+mod script;
 
 pub use run::run_script;

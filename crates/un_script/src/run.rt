@@ -3,44 +3,21 @@ ghost use Rattle.std.specs.Prelude.{◌≡◌, ◌⊎◌, ◌↔◌, ℕ, ◌≤
 ghost use Rattle.un_words.specs.Words.{IsCommand};
 ghost use Rattle.un_words.specs.declared.command.ProgramCommand.TheVariants.{Make};
 ghost use Rattle.un_script.specs.Made.{made_line};
-ghost use Rattle.un_script.specs.Runs.{IsScript, IsMake, RunsScript, RunsMake};
+ghost use Rattle.un_script.specs.Runs.{IsScript, IsFollow, IsMake, RunsScript, RunsFollow, RunsMake};
 ghost use Rattle.un_script.specs.History.{Headline};
 
-use crate::handler::Script;
+use crate::follow::run_follow;
 use crate::laws::headline;
 use crate::make::make_line;
+use crate::opening::run_status;
+use crate::script::Script;
 use std::alloc::Global;
 use un_io::{Sink, SinkFault, Source, Word, write_all};
-use un_lines::{Ending, run_lines};
 use un_steps::Steps;
 use un_words::{ProgramCommand, read_words};
 
-// Runs a script that has not begun, and answers its status.
-fn run_from_start<S: Source, K: Sink, L>(
-    alloc: Global,
-    script: &mut Script<'_, L>,
-    source: &mut S,
-    sink: &mut K,
-) -> u8
-    requires start { script.old.net ≡ None }
-    ensures statuses { Contains (0 ∷ 3 ∷ 4 ∷ 6 ∷ 7 ∷ 8 ∷ []) result }
-    ensures runs { RunsScript (S.left source.old) (S.left source.new)
-        (K.taken sink.old) (K.taken sink.new) (S.faults source.old) (S.faults source.new)
-        (K.faults sink.old) (K.faults sink.new) result }
-{
-    // For the proof alone.
-    headline();
-    match run_lines(alloc, script, source, sink) {
-        Ending::Ended => 0,
-        Ending::SourceFault => 3,
-        Ending::SinkFault => 4,
-        Ending::Refused => 6,
-        Ending::Memory => 7,
-        Ending::Limit => 8,
-    }
-}
-
 // Runs a script, and answers its status.
+#[tactic(auto, using(crate::proofs::Endings::opens_by_schema, crate::proofs::Endings::runs_script))]
 fn script_lines<S: Source, K: Sink, L>(
     alloc: Global,
     source: &mut S,
@@ -52,8 +29,10 @@ fn script_lines<S: Source, K: Sink, L>(
         (K.taken sink.old) (K.taken sink.new) (S.faults source.old) (S.faults source.new)
         (K.faults sink.old) (K.faults sink.new) result }
 {
+    // For the proof alone.
+    headline();
     let mut script = Script::new(steps);
-    run_from_start(alloc, &mut script, source, sink)
+    run_status(alloc, &mut script, source, sink)
 }
 
 // Writes the line of a generated network, and answers the status.
@@ -72,12 +51,15 @@ fn make<K: Sink>(alloc: Global, seed: u32, count: u32, sink: &mut K) -> u8
     }
 }
 
-/// Does one of two commands, and answers the status of the program.
+/// Does one of three commands, and answers the status of the program.
 ///
 /// `script` reads the lines of a script from the source, and writes the replies to the sink. What is due is a function of the bytes
 /// read alone, except for lines that ran out of memory, which the output identifies. It is defined twice: by the state that the
 /// lines before left, and by the schema and the accepted commands alone. Where a source or a sink doesn't tell its bytes, what is
 /// said of the status and its cause holds alone.
+///
+/// `follow` reads pages of changes from the source, brings a copy of a topology up to date by them, and writes the replies to the sink.
+/// What is due is a function of the bytes read in the same way.
 ///
 /// `make SEED COUNT` reads nothing, and writes the line of a generated network.
 pub fn run_script<S: Source, K: Sink, L>(
@@ -89,8 +71,8 @@ pub fn run_script<S: Source, K: Sink, L>(
 ) -> u8
     ensures statuses { Contains (0 ∷ 2 ∷ 3 ∷ 4 ∷ 6 ∷ 7 ∷ 8 ∷ []) result }
 
-    // 2: the words are neither command. Nothing is read or written.
-    ensures no_command { (result ≡ 2) ↔ ¬ (IsScript words.now ⊎ IsMake words.now) }
+    // 2: the words are none of the commands. Nothing is read or written.
+    ensures no_command { (result ≡ 2) ↔ ¬ (IsScript words.now ⊎ IsFollow words.now ⊎ IsMake words.now) }
     ensures nothing_done { result ≡ 2 → (source.new ≡ source.old) × (sink.new ≡ sink.old) }
 
     // Over every list of lines and every cut of the input, the accepted commands alone determine the state and what is due.
@@ -99,6 +81,11 @@ pub fn run_script<S: Source, K: Sink, L>(
     // `script`: what each status says of the bytes read and written, and when it comes.
     ensures script { IsScript words.now
         → RunsScript (S.left source.old) (S.left source.new) (K.taken sink.old) (K.taken sink.new)
+        (S.faults source.old) (S.faults source.new) (K.faults sink.old) (K.faults sink.new) result }
+
+    // `follow`: the same of its lines.
+    ensures follow { IsFollow words.now
+        → RunsFollow (S.left source.old) (S.left source.new) (K.taken sink.old) (K.taken sink.new)
         (S.faults source.old) (S.faults source.new) (K.faults sink.old) (K.faults sink.new) result }
 
     // `make`: the same of its line. Nothing is read.
@@ -112,6 +99,7 @@ pub fn run_script<S: Source, K: Sink, L>(
     headline();
     match read_words(words) {
         Some(ProgramCommand::Script) => script_lines(alloc, source, sink, steps),
+        Some(ProgramCommand::Follow) => run_follow(alloc, source, sink),
         Some(ProgramCommand::Make { seed, count }) => make(alloc, seed, count, sink),
         _ => 2,
     }

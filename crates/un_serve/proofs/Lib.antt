@@ -3,3 +3,5 @@ mod History
 mod Printable
 mod Versions
 mod Statuses
+mod Gathering
+pub mod Comparing

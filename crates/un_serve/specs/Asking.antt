@@ -19,6 +19,7 @@ use Rattle.un_exchange.specs.declared.asked.Asked.TheVariants as asked
 use Rattle.un_exchange.specs.declared.status.Status.TheVariants as status
 use Rattle.un_exchange.specs.Pages.{http_page}
 use Rattle.un_serve.specs.declared.asking.NetQuery.{NetQuery}
+use Rattle.un_serve.specs.declared.asking.NetQuery.TheVariants.{At, Changes}
 use Rattle.un_serve.specs.Printing.{reply_page}
 
 -- a command, a query, or a page
@@ -27,11 +28,11 @@ NetAsked = Asked Command NetQuery
 
 -- a question, which asks for its `seen` at least
 abbrev pub now_query : Query → NetQuery
-now_query q = record { seen = q.seen; query = q }
+now_query q = At q.seen q
 
 -- a question about a past version: its `seen` is about what is read, and not about the past
 abbrev pub past_query : PastQuery → NetQuery
-past_query p = record { seen = p.seen; query = record { seen = 0; what = p.what } }
+past_query p = At p.seen (record { seen = 0; what = p.what })
 
 -- a body that is no request
 abbrev pub fault_asked : ReadFault → NetAsked
@@ -42,6 +43,7 @@ abbrev pub command_asked : Result Request ReadFault → NetAsked
 command_asked (Ok (request.Command command)) = asked.Command command
 command_asked (Ok (request.Query query)) = fault_asked (BadRequest place.Do)
 command_asked (Ok (request.Past past)) = fault_asked (BadRequest place.Do)
+command_asked (Ok (request.Changes changes)) = fault_asked (BadRequest place.Do)
 command_asked (Err fault) = fault_asked fault
 
 -- the body of `POST /queries`: a request without `ask` is none
@@ -49,6 +51,7 @@ abbrev pub query_asked : Result Request ReadFault → NetAsked
 query_asked (Ok (request.Command command)) = fault_asked (BadRequest place.Ask)
 query_asked (Ok (request.Query query)) = asked.Query (now_query query)
 query_asked (Ok (request.Past past)) = asked.Past past.at (past_query past)
+query_asked (Ok (request.Changes changes)) = asked.Between changes.since changes.upto (Changes changes)
 query_asked (Err fault) = fault_asked fault
 
 -- a query that any version may answer

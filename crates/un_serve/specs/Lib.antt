@@ -1,3 +1,4 @@
+pub mod Touching
 pub mod Printing
 pub mod Asking
 pub mod Serving

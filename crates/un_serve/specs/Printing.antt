@@ -2,10 +2,15 @@
 use Rattle.std.specs.Prelude.{ℕ, None}
 use Rattle.un_defs.specs.declared.refusal.Refusal.{Refusal}
 use Rattle.un_defs.specs.declared.refusal.Refusal.TheVariants as refusal
+use Rattle.un_tiers.specs.declared.setup.Setup.{Setup}
+use Rattle.un_ask.specs.declared.query.ChangesQuery.{ChangesQuery}
 use Rattle.un_ask.specs.declared.reply.Reply.{Reply}
 use Rattle.un_ask.specs.declared.reply.Reply.TheVariants as reply
 use Rattle.un_replies.specs.Commands.{IsOfCommand, HasFewIds}
 use Rattle.un_replies.specs.Replies.{print, past_around}
+use Rattle.un_feed.specs.Differences.{Kept, ChangesShown, differences, page_of}
+use Rattle.un_feed_json.specs.Shown.{changes_text}
+use Rattle.un_turns.specs.declared.request.Span.{Span}
 use Rattle.un_exchange.specs.declared.status.Status.{Status}
 use Rattle.un_exchange.specs.declared.status.Status.TheVariants as status
 use Rattle.un_exchange.specs.Pages.{PageModel, page}
@@ -36,6 +41,24 @@ ahead_reply seen latest = reply.Refused (refusal.Ahead seen latest) None 0
 abbrev pub not_yet_reply : ℕ → ℕ → Reply
 not_yet_reply at latest = reply.Refused (refusal.NotYet at latest) None 0
 
+-- the refusal of a query about two versions of which the first comes after the second
+abbrev pub reversed_reply : ℕ → ℕ → ℕ → Reply
+reversed_reply version since upto = reply.Refused (refusal.BadSpan since upto) None version
+
+-- the differences of two kept topologies that a query asks for
+abbrev pub changes_between : Span → Kept → Kept → ChangesQuery → ChangesShown
+changes_between span old new q = record {
+  page = page_of (differences old new) q.after q.most;
+  after = q.after;
+  since = span.since;
+  upto = span.upto;
+  version = span.version;
+}
+
+-- a page of them
+abbrev pub changes_page : Setup → Span → Kept → Kept → ChangesQuery → PageModel
+changes_page S span old new q = page status.Ok (changes_text S.schema S.tiers (changes_between span old new q))
+
 -- an answer at a past version, whatever its own status, in a response at a version
 abbrev pub past_page : ℕ → PageModel → PageModel
 past_page version answer = page status.Ok (past_around answer.body version)
@@ -51,6 +74,7 @@ printing = record {
   past = past_page;
   ahead = λ seen latest. print (ahead_reply seen latest);
   not_yet = λ at latest. print (not_yet_reply at latest);
+  reversed = λ version since upto. print (reversed_reply version since upto);
 }
 
 -- the version that a reply reports

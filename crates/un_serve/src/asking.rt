@@ -9,16 +9,18 @@ ghost use Rattle.un_serve.specs.Asking.{Asks, command_asked, fault_asked, find, 
 
 use crate::printing::reply_page;
 use std::alloc::{AllocError, Global};
-use un_ask::{Asked as Question, Command, Name, PastQuery, Place, Query, Request};
+use un_ask::{Asked as Question, ChangesQuery, Command, Name, PastQuery, Place, Query, Request};
 use un_exchange::{Asked, Page, Status};
 use un_http::{Route, Routes};
 use un_json::{ReadFault, read_request};
 
-/// A question, and the least version that may be read for it.
+/// What is asked of a network, with the least version that may be read for it.
 #[derive(Drop)]
-pub struct NetQuery {
-    pub seen: u64,
-    pub query: Query,
+pub enum NetQuery {
+    /// A question at one state.
+    At { seen: u64, query: Query },
+    /// A question about the kept topologies of two states. At one state it asks for the version.
+    Changes(ChangesQuery),
 }
 
 /// What a request asks of a network.
@@ -28,7 +30,7 @@ pub(crate) type NetAsked = Asked<Command, NetQuery>;
 fn now_query(query: Query) -> NetQuery
     ensures { result ≡ now_query query }
 {
-    NetQuery {
+    NetQuery::At {
         seen: query.seen,
         query,
     }
@@ -38,7 +40,7 @@ fn now_query(query: Query) -> NetQuery
 fn past_query(past: PastQuery) -> NetQuery
     ensures { result ≡ past_query past }
 {
-    NetQuery {
+    NetQuery::At {
         seen: past.seen,
         query: Query {
             seen: 0,
@@ -65,6 +67,7 @@ fn command_asked(alloc: Global, body: &[u8]) -> Result<NetAsked, AllocError>
         Ok(Request::Command(command)) => Ok(Asked::Command(command)),
         Ok(Request::Query(_)) => fault_asked(alloc, ReadFault::BadRequest { place: Place::Do }),
         Ok(Request::Past(_)) => fault_asked(alloc, ReadFault::BadRequest { place: Place::Do }),
+        Ok(Request::Changes(_)) => fault_asked(alloc, ReadFault::BadRequest { place: Place::Do }),
         Err(fault) => fault_asked(alloc, fault),
     }
 }
@@ -79,6 +82,11 @@ fn query_asked(alloc: Global, body: &[u8]) -> Result<NetAsked, AllocError>
         Ok(Request::Past(past)) => Ok(Asked::Past {
             at: past.at,
             query: past_query(past),
+        }),
+        Ok(Request::Changes(changes)) => Ok(Asked::Between {
+            since: changes.since,
+            upto: changes.upto,
+            query: NetQuery::Changes(changes),
         }),
         Err(fault) => fault_asked(alloc, fault),
     }

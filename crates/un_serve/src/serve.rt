@@ -6,7 +6,7 @@ ghost use Rattle.un_core.specs.Commands.{step};
 ghost use Rattle.un_exchange.specs.Links.{Serves};
 ghost use Rattle.un_serve.specs.Asking.{Asks};
 ghost use Rattle.un_serve.specs.Printing.{printing};
-ghost use Rattle.un_serve.specs.Serving.{ServesNet, least_of, answer_of};
+ghost use Rattle.un_serve.specs.Serving.{ServesNet, least_of, answers_of};
 
 use crate::service::NetService;
 use std::alloc::Global;
@@ -32,7 +32,7 @@ fn serve_by<R: Wait + Threads + Sync, J: BoardName<Net>, L: Link>(
 ) -> LinkEnd
 where
     Published<Net, J>: Snapshot<State = Published<Net, J>>,
-    ensures served { Serves step J.opening least_of answer_of Asks printing
+    ensures served { Serves step J.opening least_of answers_of Asks printing
         session.old session.new (L.left link.old) (L.left link.new)
         (L.taken link.old) (L.taken link.new) result }
     ensures write_cause { result ≡ LinkEnd.WriteFault

@@ -3,12 +3,15 @@ ghost use Rattle.std.specs.Prelude.{◌≡◌, ◌≤◌, [], None, IfOk, vec_ca
 ghost use Rattle.un_ask.specs.declared.reply.Reply.TheVariants.{Refused};
 ghost use Rattle.un_ask.specs.Replies.{HasFewEdits};
 ghost use Rattle.un_replies.specs.Replies.{print};
+ghost use Rattle.un_core.specs.Answers.{answer};
+ghost use Rattle.un_serve.specs.Printing.{reply_page};
 
 use crate::asking::{NetAsked, NetQuery, read_asked};
-use crate::printing::{past_page, reply_page, reply_status};
+use crate::printing::{changes_page, past_page, reply_page, reply_status};
+use crate::touched::Touched;
 use std::alloc::{AllocError, Global};
 use std::thread::Threads;
-use un_ask::{Command, Refusal, Reply};
+use un_ask::{Asked, Command, Query, Refusal, Reply};
 use un_core::laws::steps_reply;
 use un_core::{Net, Prepared};
 use un_exchange::{Page, REPLY_ROOM, Service, Status};
@@ -16,7 +19,7 @@ use un_http::Routes;
 use un_journal::receipt::Ahead;
 use un_replies::print_command_reply;
 use un_steps::Steps;
-use un_turns::Answers;
+use un_turns::{Answers, Span};
 
 /// Reads the requests of links by their routes, and prints the replies of a network.
 #[derive(Drop)]
@@ -43,24 +46,33 @@ fn few_edits(command: &Command)
     }
 }
 
-// Prints a refusal that tells no version of the network. It takes no memory.
-fn print_refusal(refusal: Refusal, out: &mut Vec<u8>)
+// Prints a refusal with a version of the network, which some refusals show. It takes no memory.
+fn print_refusal(refusal: Refusal, version: u64, out: &mut Vec<u8>)
     requires empty { out.old.items ≡ [] }
     requires room { REPLY_ROOM ≤ vec_capacity out.old }
-    ensures text { out.new.items ≡ print (Refused refusal None 0) }
+    ensures text { out.new.items ≡ print (Refused refusal None version) }
     ensures capacity { vec_capacity out.old ≤ vec_capacity out.new }
 {
     let reply = Reply::Refused {
         refusal,
         edit: None,
-        version: 0,
+        version,
     };
     print_command_reply(&reply, out);
 }
 
+// The answer of a question at a state.
+fn answer_at(alloc: Global, state: &Net, query: &Query) -> Result<Page, AllocError>
+    ensures { IfOk result (λ page. page ≡ reply_page (answer state.now query.now)) }
+{
+    let mut steps = Steps::<()>::new();
+    let reply = state.answer(alloc, query, &mut steps)?;
+    reply_page(alloc, &reply)
+}
+
 /// A query is answered by the network, and printed.
 impl Answers<Net> for NetService {
-    ghost use Rattle.un_serve.specs.Serving.{least_of, answer_of};
+    ghost use Rattle.un_serve.specs.Serving.{least_of, answer_of, between_of};
 
     type Query = NetQuery;
 
@@ -71,13 +83,49 @@ impl Answers<Net> for NetService {
     ghost answer = { answer_of };
 
     fn least(query: &NetQuery) -> u64 {
-        query.seen
+        match query {
+            NetQuery::At { seen, query: _ } => *seen,
+            NetQuery::Changes(changes) => changes.seen,
+        }
     }
 
     fn answer(alloc: Global, state: &Net, query: &NetQuery) -> Result<Page, AllocError> {
-        let mut steps = Steps::<()>::new();
-        let reply = state.answer(alloc, &query.query, &mut steps)?;
-        reply_page(alloc, &reply)
+        match query {
+            NetQuery::At { seen: _, query } => answer_at(alloc, state, query),
+            NetQuery::Changes(_) => answer_at(
+                alloc,
+                state,
+                &Query {
+                    seen: 0,
+                    what: Asked::Version,
+                },
+            ),
+        }
+    }
+
+    type Gathered = Touched;
+
+    ghost between = { between_of };
+
+    fn start_gathering(alloc: Global) -> Touched {
+        Touched::new(alloc)
+    }
+
+    #[tactic(auto, using(crate::proofs::Comparing::touched_by))]
+    fn compare(
+        alloc: Global,
+        span: Span,
+        old: &Net,
+        new: &Net,
+        gathered: &Touched,
+        query: &NetQuery,
+    ) -> Result<Page, AllocError> {
+        match query {
+            NetQuery::At { seen: _, query } => answer_at(alloc, new, query),
+            NetQuery::Changes(changes) => {
+                changes_page(alloc, span, old, new, gathered.rects(), changes)
+            }
+        }
     }
 
     fn may_prepare(cmd: &Command) -> bool {
@@ -134,6 +182,7 @@ impl Service<Net> for NetService {
                 seen: ahead.seen(),
                 latest: ahead.latest(),
             },
+            0,
             out,
         );
     }
@@ -144,8 +193,13 @@ impl Service<Net> for NetService {
                 at: ahead.seen(),
                 latest: ahead.latest(),
             },
+            0,
             out,
         );
+    }
+
+    fn print_reversed(version: u64, since: u64, upto: u64, out: &mut Vec<u8>) {
+        print_refusal(Refusal::BadSpan { since, upto }, version, out);
     }
 
     fn answer_page(answer: Page) -> Page {

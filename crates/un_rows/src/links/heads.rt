@@ -1,6 +1,6 @@
 //! Links of one or a few requests, cut at every byte.
 
-use super::{gives_however_cut, past};
+use super::{changes, gives_however_cut, past};
 use std::alloc::{AllocError, Global};
 use std::sync::Wait;
 use std::test::Fail;
@@ -8,7 +8,7 @@ use std::thread::Threads;
 use un_serve::LinkEnd;
 
 // Inputs, with the output and the end.
-const LINKS: [(&[u8], &str, LinkEnd); 23] = [
+const LINKS: [(&[u8], &str, LinkEnd); 24] = [
     (b"", "", LinkEnd::Closed),
     (
         b"GET /version HTTP/1.1\r\nHost: a\r\n\r\n",
@@ -116,6 +116,7 @@ const LINKS: [(&[u8], &str, LinkEnd); 23] = [
         LinkEnd::Closed,
     ),
     (past::INPUT, past::OUTPUT, LinkEnd::Closed),
+    (changes::INPUT, changes::OUTPUT, LinkEnd::Closed),
 ];
 
 // The first of the inputs that has other responses, or another end.

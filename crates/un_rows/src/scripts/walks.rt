@@ -58,7 +58,17 @@ pub(super) const DIAGRAM: &[Exchange] = &[
     ),
 ];
 
-pub(super) const SERVE_ONLY: &[Exchange] = &[(
-    r#"{"ask":"past","at":0,"query":{"ask":"version"}}"#,
-    r#"{"error":48,"name":"ServeOnly"}"#,
-)];
+pub(super) const SERVE_ONLY: &[Exchange] = &[
+    (
+        r#"{"ask":"past","at":0,"query":{"ask":"version"}}"#,
+        r#"{"error":48,"name":"ServeOnly"}"#,
+    ),
+    (
+        r#"{"ask":"changes","since":0,"seen":9}"#,
+        r#"{"error":48,"name":"ServeOnly"}"#,
+    ),
+    (
+        r#"{"ask":"changes"}"#,
+        r#"{"error":2,"name":"BadRequest","place":"since"}"#,
+    ),
+];

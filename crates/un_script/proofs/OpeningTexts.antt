@@ -4,7 +4,7 @@ use Rattle.std.specs.Fmt.{digits}
 use Rattle.serde_json.proofs.OnLiterals.{serde_json_on_literals}
 use Rattle.un_schema.specs.declared.place.Place.TheVariants as place
 use Rattle.un_replies.specs.Replies.{print}
-use Rattle.un_script.specs.Script.{bad_schema, line_too_long}
+use Rattle.un_script.specs.Opening.{bad_schema, line_too_long}
 
 digits_3 : decimal 3 ≡ codes "3"
 unfolding digits

@@ -14,28 +14,22 @@ ghost use Rattle.un_ask.specs.Replies.{HasFewEdits};
 ghost use Rattle.un_core.specs.Commands.{command_reply, state_after};
 ghost use Rattle.un_core.specs.Answers.{answer};
 ghost use Rattle.un_core.specs.Requests.{serve_only};
-ghost use Rattle.un_script.specs.Script.{bad_schema, reply_to_line, state_behind_line};
+ghost use Rattle.un_script.specs.Script.{reply_to_line, state_behind_line};
 
+use crate::opening::{
+    line_too_long, no_schema, print_bad_schema, print_line, refuse, refused, schema_too_long,
+};
 use std::alloc::{AllocError, Global};
 use std::marker::PhantomData;
-use un_ask::{Command, Place, Query, Refusal, Reply, Request};
+use un_ask::{Command, Query, Refusal, Reply, Request};
 use un_core::Net;
 use un_core::laws::steps_reply;
-use un_json::{ReadFault, read_request};
+use un_json::read_request;
 use un_lines::{Handler, Opened, REPLY_ROOM};
 use un_machine::Applied;
-use un_replies::{print_command_reply, print_reply};
+use un_replies::print_reply;
 use un_schema_json::{SchemaFault, read_schema};
 use un_steps::Steps;
-
-/// The refusal of a later line that is too long.
-const LINE_TOO_LONG: &[u8] = b"{\"error\":3,\"name\":\"LineTooLong\"}";
-
-/// The refusal of a first line that is too long.
-const SCHEMA_TOO_LONG: &[u8] = b"{\"error\":6,\"name\":\"BadSchema\",\"place\":\"line\"}";
-
-/// The refusal of an input without a first line.
-const NO_SCHEMA: &[u8] = b"{\"error\":6,\"name\":\"BadSchema\",\"place\":\"\"}";
 
 /// The network, once a schema has opened it, and the count of the stars that its traces look up.
 #[derive(Drop)]
@@ -55,18 +49,6 @@ impl<'a, L> Script<'a, L> {
     }
 }
 
-// Adds the reply of a command, with its line's end. It takes no memory.
-fn print_line(reply: &Reply, out: &mut Vec<u8>)
-    requires command { IsOfCommand reply.now }
-    requires few { HasFewIds reply.now }
-    requires room { vec_len out.old + REPLY_ROOM ≤ vec_capacity out.old }
-    ensures text { out.new.items ≡ out.old.items ++ (print reply.now ++ 10 ∷ []) }
-    ensures capacity { vec_capacity out.old ≤ vec_capacity out.new }
-{
-    print_command_reply(reply, out);
-    let _ = out.push(b'\n');
-}
-
 // Adds the reply of a query, with its line's end. Want of memory changes nothing.
 fn print_answer(alloc: Global, reply: &Reply, out: &mut Vec<u8>) -> Result<(), AllocError>
     ensures ok { OnOk result (out.new.items ≡ out.old.items ++ (print reply.now ++ 10 ∷ [])) }
@@ -76,26 +58,6 @@ fn print_answer(alloc: Global, reply: &Reply, out: &mut Vec<u8>) -> Result<(), A
     print_reply(alloc, reply, out)?;
     let _ = out.push(b'\n');
     Ok(())
-}
-
-// A refusal that tells no version.
-fn refused(refusal: Refusal) -> Reply
-    ensures { result ≡ Reply.Refused refusal None 0 }
-{
-    Reply::Refused {
-        refusal,
-        edit: None,
-        version: 0,
-    }
-}
-
-// Adds the refusal of a first line.
-fn print_bad_schema(place: Place, out: &mut Vec<u8>)
-    requires { vec_len out.old + REPLY_ROOM ≤ vec_capacity out.old }
-    ensures text { out.new.items ≡ out.old.items ++ (print (bad_schema place) ++ 10 ∷ []) }
-    ensures capacity { vec_capacity out.old ≤ vec_capacity out.new }
-{
-    print_line(&refused(Refusal::BadSchema { place }), out);
 }
 
 // A batch has few edits, as each batch has.
@@ -157,21 +119,8 @@ fn tell<L>(
     print_answer(alloc, &reply, out)
 }
 
-// Refuses a line that is no request. Want of memory changes nothing.
-fn refuse(fault: ReadFault, out: &mut Vec<u8>) -> Result<(), AllocError>
-    requires { vec_len out.old + REPLY_ROOM ≤ vec_capacity out.old }
-    ensures reply { OnOk result (out.new.items ≡ out.old.items ++ (print (fault_reply fault) ++ 10 ∷ [])) }
-    ensures err { OnErr result ((fault ≡ ReadFault.Memory) × (out.new.items ≡ out.old.items)) }
-    ensures capacity { vec_capacity out.old ≤ vec_capacity out.new }
-    ensures fault { OnOk result (fault ≢ ReadFault.Memory) }
-{
-    let reply = fault.reply()?;
-    print_line(&reply, out);
-    Ok(())
-}
-
-// Refuses a query at a past version.
-fn refuse_past(out: &mut Vec<u8>)
+// Refuses a query that a server alone answers.
+fn refuse_served(out: &mut Vec<u8>)
     requires { vec_len out.old + REPLY_ROOM ≤ vec_capacity out.old }
     ensures text { out.new.items ≡ out.old.items ++ (print serve_only ++ 10 ∷ []) }
     ensures capacity { vec_capacity out.old ≤ vec_capacity out.new }
@@ -198,7 +147,11 @@ fn answer<L>(
         Ok(Request::Command(command)) => apply(alloc, net, &command, out),
         Ok(Request::Query(query)) => tell(alloc, net, &query, steps, out),
         Ok(Request::Past(_)) => {
-            refuse_past(out);
+            refuse_served(out);
+            Ok(())
+        }
+        Ok(Request::Changes(_)) => {
+            refuse_served(out);
             Ok(())
         }
         Err(fault) => refuse(fault, out),
@@ -246,18 +199,15 @@ impl<L> Handler for Script<'_, L> {
         }
     }
 
-    #[tactic(auto, using(crate::proofs::Texts::line_too_long_text))]
     fn too_long(&self) -> &'static [u8] {
-        LINE_TOO_LONG
+        line_too_long()
     }
 
-    #[tactic(auto, using(crate::proofs::Texts::schema_too_long_text))]
     fn refusal_too_long(&self) -> &'static [u8] {
-        SCHEMA_TOO_LONG
+        schema_too_long()
     }
 
-    #[tactic(auto, using(crate::proofs::Texts::no_schema_text))]
     fn refusal_missing(&self) -> &'static [u8] {
-        NO_SCHEMA
+        no_schema()
     }
 }
