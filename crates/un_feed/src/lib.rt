@@ -6,8 +6,6 @@ pub mod differences;
 pub mod follower;
 pub mod laws;
 pub mod putting;
-#[cfg(test)]
-mod tests;
 
 pub use changes::{Change, Changes, Page, Pairs};
 pub use differences::diff;

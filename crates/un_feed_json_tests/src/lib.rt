@@ -1,6 +1,8 @@
-//! Tests of the JSON of changes. Texts are written with `'` in place of `"`.
+//! Tests of differences and of their JSON. Texts are written with `'` in place of `"`.
 #![tactic(auto)]
 
+#[cfg(test)]
+mod differences;
 #[cfg(test)]
 mod follow;
 #[cfg(test)]

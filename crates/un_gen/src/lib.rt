@@ -29,6 +29,3 @@ pub fn commands(alloc: Global, seed: u32, count: u32) -> Result<Vec<Command>, Al
     commands.push(inserts::validation())?;
     Ok(commands)
 }
-
-#[cfg(test)]
-mod tests;

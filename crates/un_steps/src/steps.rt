@@ -40,6 +40,3 @@ impl<L> Steps<L> {
 }
 
 const _: () = prove!(size_of::<Steps<u64>>() == 0);
-
-#[cfg(test)]
-mod tests;

@@ -1,4 +1,4 @@
-//! Tests of walks and of traces over small grounds.
+//! Tests of walks and of traces over small grounds, and of counts of steps.
 #![tactic(auto)]
 
 #[cfg(test)]
@@ -13,6 +13,8 @@ mod paths;
 mod pipes;
 #[cfg(test)]
 mod pump;
+#[cfg(test)]
+mod steps;
 #[cfg(test)]
 mod traces;
 #[cfg(test)]

@@ -5,6 +5,3 @@ mod command;
 mod number;
 
 pub use command::{ProgramCommand, read_words};
-
-#[cfg(test)]
-mod tests;

@@ -19,8 +19,9 @@ fn makes(
 }
 
 // Words, which write fails, and the status and the output. With 21 joints at the places 0 to 20 there are 19 pipes along
-// the first row, and one from place 0 to place 20: the draw from 7 gives 4, which is not 0. So there are 41 features, all
-// connected, and they are a tree. 41 inserts and a validation are 42 commands. With 3 places there are 3 joints and 2 pipes.
+// the first row, and one from place 0 to place 20: the draw makes the state 7 * 1103515245 + 12345 = 7724619060 mod
+// 2147483648 = 1282168116, which div 65536 is 19564 and so gives 4, not 0. So there are 41 features, all connected, and
+// they are a tree. 41 inserts and a validation are 42 commands. With 3 places there are 3 joints and 2 pipes.
 const MADE: [(&[&str], usize, u8, &str); 9] = [
     (
         &["make", "7", "21"],

@@ -1,6 +1,7 @@
+//! Counts of steps.
 ghost use Rattle.std.specs.Prelude.{◌≡◌, ◌+◌, length};
 
-use crate::steps::Steps;
+use un_steps::Steps;
 
 struct Additions;
 

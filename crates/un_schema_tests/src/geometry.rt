@@ -1,5 +1,33 @@
-use super::*;
+//! Points, rectangles and shapes.
+use std::alloc::{AllocError, Global};
 use std::test::Fail;
+use un_geom::{Point, Rect, Shape, ShapeFault, Triples};
+
+#[test]
+fn limits_of_a_rectangle(rt: HostRuntime) {
+    let far: i64 = 1_000_000_000;
+    let whole = Rect::new(-far, -far, far, far).map(|r| r.sides());
+    assert_eq!(rt;
+        whole,
+        Some([-1_000_000_000, -1_000_000_000, 1_000_000_000, 1_000_000_000])
+    );
+    assert_eq!(rt; Rect::new(0, 0, far + 1, 0), None);
+    assert_eq!(rt; Rect::new(0, -far - 1, 0, 0), None);
+    assert_eq!(rt; Rect::new(1, 0, 0, 0), None);
+    assert_eq!(rt; Rect::new(0, 1, 0, 0), None);
+}
+
+#[test]
+fn corners_and_heights(rt: HostRuntime) -> Result<(), Fail> {
+    let square = Rect::new(0, 0, 2, 2).ok_or("square")?;
+    let corner = Rect::new(2, 2, 5, 5).ok_or("corner")?;
+    let apart = Rect::new(3, 2, 5, 5).ok_or("apart")?;
+    assert!(rt; square.meets(&corner));
+    assert!(rt; !square.meets(&apart));
+    assert!(rt; square.covers(Point { x: 2, y: 0, z: 99 }));
+    assert!(rt; !square.covers(Point { x: 2, y: 3, z: 0 }));
+    Ok(())
+}
 
 fn line(alloc: Global, count: i64) -> Result<Vec<[i64; 3]>, AllocError> {
     let mut points = Vec::new(alloc);
@@ -67,5 +95,13 @@ fn messages(rt: HostRuntime) -> Result<(), Fail> {
     assert_eq!(rt; bad.as_str(), "bad shape at vertex 7");
     let memory = format!(in rt.alloc(); "{}", ShapeFault::Memory)?;
     assert_eq!(rt; memory.as_str(), "out of memory");
+    Ok(())
+}
+
+#[test]
+fn gives_the_list_back(rt: HostRuntime) -> Result<(), Fail> {
+    let triples = Triples::new(vec![in rt.alloc(); [1, 2, 3], [4, 5, 6]]?);
+    assert_eq!(rt; triples.as_slice(), [[1, 2, 3], [4, 5, 6]].as_slice());
+    assert_eq!(rt; triples.into_vec().len(), 2);
     Ok(())
 }

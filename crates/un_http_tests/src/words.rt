@@ -1,7 +1,8 @@
-use super::*;
+//! The words of the command line.
 use std::alloc::{AllocError, Global};
 use std::test::Fail;
 use un_io::Word;
+use un_words::{ProgramCommand, read_words};
 
 // What the words of a line, split at its spaces, are read as.
 fn read_line(alloc: Global, line: &str) -> Result<Option<ProgramCommand>, AllocError> {

@@ -1,14 +1,14 @@
-// Each call once, with memory enough.
+//! Differences, pages and copies: each call once, with memory enough.
 ghost use Rattle.std.specs.Prelude.{◌≡◌, ◌++◌, IfOk};
 ghost use Rattle.std.specs.Map.{keys_of};
 ghost use Rattle.un_feed.specs.Differences.{points_of};
 
-use crate::{Change, Changes, Follower, Page, Pairs, diff, put_in};
 use std::alloc::{AllocError, Global};
 use std::ops::Bound;
 use std::sync::Arc;
 use un_defs::star::{Spots, TopoErrors};
 use un_defs::{ErrorKind, Star, TopoError, order};
+use un_feed::{Change, Changes, Follower, Page, Pairs, diff, put_in};
 use un_geom::Point;
 use un_pages::Paged;
 

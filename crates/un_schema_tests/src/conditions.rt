@@ -1,8 +1,9 @@
+//! Conditions of names, resolved and looked at.
 ghost use Rattle.std.specs.Prelude.{◌∷◌, [], codes};
 
-use crate::{Cond, CondFault, Names, Op, RawCond, Text, holds};
 use std::alloc::Global;
 use std::test::Fail;
+use un_conds::{Cond, CondFault, Names, Op, RawCond, Text, holds};
 
 // Attributes `diameter` and `shut`, category `isolating`.
 struct Valves;

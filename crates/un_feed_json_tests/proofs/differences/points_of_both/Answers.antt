@@ -3,7 +3,7 @@ use Rattle.std.specs.Map.{keys_of}
 use Rattle.un_geom.specs.Places.{point_cmp}
 use Rattle.un_points.proofs.Lookups.{orders}
 use Rattle.un_defs.specs.Orders.{rising}
-use Rattle.un_feed.proofs.tests.points_of_both.Goals as goal
+use Rattle.un_feed_json_tests.proofs.differences.points_of_both.Goals as goal
 
 pub returns : goal.returns
 returns c =

@@ -1,5 +1,5 @@
 use Rattle.std.proofs.Common.{◌≡◌, ◌+◌}
-use Rattle.un_steps.proofs.steps.tests.sum.Given as goal
+use Rattle.un_walk_tests.proofs.steps.sum.Given as goal
 
 -- one step for each number so far
 abbrev pub invariant-loop-number : goal.invariant-loop-number

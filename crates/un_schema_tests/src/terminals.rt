@@ -1,5 +1,6 @@
-use crate::{TermConfig, TermFault};
+//! Terminal configurations.
 use std::test::Fail;
+use un_terms::{TermConfig, TermFault};
 
 // A pump: one path from terminal 1 to terminal 2, and one without a pair.
 #[test]

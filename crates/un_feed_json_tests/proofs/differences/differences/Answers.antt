@@ -9,7 +9,7 @@ use Rattle.un_defs.proofs.Rising.{Among, sorted-rising}
 use Rattle.un_defs.proofs.Members.{contains_from_among}
 use Rattle.un_feed.specs.Differences.{Kept, points_of}
 use Rattle.un_feed.proofs.Applying.{changed, not_changed, among_points}
-use Rattle.un_feed.proofs.tests.differences.Goals as goal
+use Rattle.un_feed_json_tests.proofs.differences.differences.Goals as goal
 
 among : (a b : Kept) (p : Point) → value_at p a ≢ value_at p b → (c : Bool) → changed a b p ≡ c → Among (points_of a b) p
 among a b p differs true e = among_points a b p e
