@@ -10,7 +10,6 @@ use Rattle.un_defs.specs.Orders.{same_node, node_cmp}
 use Rattle.un_defs.proofs.OrderLaws.{node_total, node_ties}
 use Rattle.un_defs.proofs.Unique.{node_same, node_itself}
 use Rattle.un_walk.specs.Growth.{has_node}
-use Rattle.un_walk.specs.EachOnce.{IsEachOnce}
 
 both_or_neither : (b c : Bool) → (b ≡ true → c ≡ true) → (c ≡ true → b ≡ true) → b ≡ c
 both_or_neither true c f g = sym (f refl)
@@ -28,43 +27,6 @@ same_node_laws = record {
   symm = same_node_turns;
   congr = λ x y z e. ap (λ k. same_node k z) (node_same x y e);
 }
-
-any_end : (p : Node → Bool) (ns : List Node) (n : Node) → list_any p (ns ++ n ∷ []) ≡ (list_any p ns || p n)
-any_end p [] n = last (p n)
-  where
-    last : (b : Bool) → (b || false) ≡ b
-    last true = refl
-    last false = refl
-any_end p (m ∷ ns) n = ap (λ b. p m || b) (any_end p ns n) ∙ joined (p m) (list_any p ns) (p n)
-  where
-    joined : (a b c : Bool) → (a || (b || c)) ≡ ((a || b) || c)
-    joined true b c = refl
-    joined false b c = refl
-
--- the set and the list with one more node, which neither had
-pub each_once_with : (keys more nodes : List Node) (n : Node) → IsEachOnce keys nodes → has_node keys n ≡ false
-    → ((q : Node) → has_node more q ≡ cond (same_node n q) true (has_node keys q)) → IsEachOnce more (nodes ++ n ∷ [])
-each_once_with keys more nodes n once new has = record {
-  same = λ q. has q ∙ either (same_node n q) (has_node keys q) ∙ ap₂' (once.same q) (same_node_turns n q) ∙ sym (any_end (same_node q) nodes n);
-  distinct = IsDistinct-push same_node_laws nodes n once.distinct (sym (once.same n) ∙ new);
-}
-  where
-    either : (a b : Bool) → cond a true b ≡ (b || a)
-    either true true = refl
-    either true false = refl
-    either false true = refl
-    either false false = refl
-
-    ap₂' : {a b c d : Bool} → a ≡ b → c ≡ d → (a || c) ≡ (b || d)
-    ap₂' e f i = e i || f i
-
--- the same, where the set compares by another test that answers alike
-pub each_once_by : (eq : Node → Node → Bool) → ((n m : Node) → eq n m ≡ same_node n m) → (keys more nodes : List Node) (n : Node) → IsEachOnce keys nodes → list_any (eq n) keys ≡ false
-    → ((q : Node) → list_any (eq q) more ≡ cond (eq n q) true (list_any (eq q) keys)) → IsEachOnce more (nodes ++ n ∷ [])
-each_once_by eq is keys more nodes n once new has =
-    let alike : eq ≡ same_node = λ i x y. is x y i in
-    each_once_with keys more nodes n once (sym (ap (λ e. list_any (e n) keys) alike) ∙ new)
-    (λ q. sym (ap (λ e. list_any (e q) more) alike) ∙ has q ∙ ap (λ e. cond (e n q) true (list_any (e q) keys)) alike)
 
 turned_less : (k j : Ordering) → k ≡ ordering_reverse j → is_lt j ≡ false → ¬ (k ≡ Equal) → k ≡ Less
 turned_less Less j e f g = refl

@@ -1,5 +1,5 @@
 pub mod Dirt
-pub mod EachOnce
+pub mod Hashing
 pub mod Entries
 pub mod Growth
 pub mod Seen

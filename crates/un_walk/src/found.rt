@@ -5,28 +5,30 @@ ghost use Rattle.std.specs.List.{IsDistinct};
 ghost use Rattle.un_defs.specs.Orders.{same_node};
 ghost use Rattle.un_walk.specs.Growth.{with_node};
 
+use crate::hasher::NodeHasher;
+use indexmap::IndexSet;
 use std::alloc::{AllocError, Global};
-use std::collections::HashSet;
+use std::hash::BuildHasherDefault;
 use std::marker::Model;
 use un_defs::Node;
 
 /// A list of distinct nodes that knows at once whether it has a node.
 #[derive(Drop)]
 pub(crate) struct Found {
-    seen: HashSet<Node>,
-    order: Vec<Node>,
+    nodes: IndexSet<Node, BuildHasherDefault<NodeHasher>>,
 }
 
 impl Model for Found {
     ghost use Rattle.std.specs.Prelude.{List};
+    ghost use Rattle.std.specs.List.{IsDistinct};
+    ghost use Rattle.un_defs.specs.Orders.{same_node};
     ghost use Rattle.un_defs.specs.declared.port.Node.{Node};
-    ghost use Rattle.un_walk.specs.EachOnce.{IsEachOnce};
 
     ghost Value = { List Node };
 
-    ghost view = { λ f. f.order.items };
+    ghost view = { λ f. f.nodes.keys };
 
-    ghost invariant = { λ f. IsEachOnce f.seen.keys f.order.items };
+    ghost invariant = { λ f. IsDistinct same_node f.nodes.keys };
 }
 
 impl Found {
@@ -34,8 +36,7 @@ impl Found {
         ensures { result ≡ [] }
     {
         Found {
-            seen: HashSet::new(alloc),
-            order: Vec::new(alloc),
+            nodes: IndexSet::with_hasher(alloc, BuildHasherDefault::new()),
         }
     }
 
@@ -44,7 +45,7 @@ impl Found {
         ensures len { result ≡ length self.now }
         ensures distinct { IsDistinct same_node self.now }
     {
-        self.order.len()
+        self.nodes.len()
     }
 
     /// The node at a place.
@@ -52,17 +53,14 @@ impl Found {
         requires { place < length self.now }
         ensures { slice_get self.now place ≡ Some result }
     {
-        self.order[place]
+        self.nodes.as_slice()[place]
     }
 
     /// Adds the node at the end, unless it is there.
     pub(crate) fn add(&mut self, node: Node) -> Result<(), AllocError>
         ensures { OnOk result (self.new ≡ with_node self.old node) }
     {
-        self.order.reserve(1)?;
-        if self.seen.insert(node)? {
-            self.order.push(node)?;
-        }
+        self.nodes.insert(node)?;
         Ok(())
     }
 }
