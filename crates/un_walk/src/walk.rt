@@ -13,7 +13,7 @@ ghost use Rattle.un_walk.specs.Ticks.{IsLookedUpOnce};
 use crate::dirt::dirt_after;
 use crate::found::Found;
 use crate::seen::Seen;
-use crate::site::{Site, site_at};
+use crate::site::{Site, Sites};
 use crate::traversal::{Place, follow};
 use std::alloc::{AllocError, Global};
 use un_defs::port::Nodes;
@@ -140,17 +140,16 @@ pub fn reach_seen<'a, G: Ground, L>(
     let mut found = found_starts(alloc, starts)?;
     let mut seen = Vec::new(alloc);
     let mut least = None;
-    let mut last = None;
+    let mut sites = Sites::new(alloc, over)?;
     let mut next = 0;
     while next < found.len() {
         let node = found.at(next);
-        let site = site_at(over, node.at, last, steps);
+        let site = sites.at(over, node.at, steps);
         let spot = site.entry(node.port);
         let one = Seen { node, spot };
         least = dirt_after(least, site.area, node.port);
         visit(over, &one, &site, mode, barriers, &mut found, steps)?;
         seen.push(one)?;
-        last = Some(site);
         next += 1;
     }
     seen.sort_unstable_by_key(|one| one.node);

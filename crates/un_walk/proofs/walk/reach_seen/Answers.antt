@@ -27,7 +27,7 @@ loop-next-init g c = record {
   within = omega arith;
   nodes = ap nodes_of c.new-seen.ensures.items;
   entries = subst (HaveEntries (g.G.Ground.stars_and_areas c.args.over.now)) (sym c.new-seen.ensures.items) refl;
-  site = tt;
+  sites = c.in_ok-sites.ensures;
   walked = walked_start _ _ c.in_ok-found.found c.in_ok-found.ensures;
   dirt = dirt_none (g.G.Ground.stars_and_areas c.args.over.now);
   rises = omega arith;
@@ -39,12 +39,12 @@ entry_here : (G : Ground) (s : Site) (n : Node) (o : Option Spot) → IsSite G s
 entry_here G s n o is at e = e ∙ ap (λ star. entry_in star n.port) (is.star ∙ ap G.stars at)
 
 pub visit-requires-clause-at : goal.visit-requires-clause-at
-visit-requires-clause-at g c = c.site_at-site.ensures.at
+visit-requires-clause-at g c = c.at-site.ensures.at
 
 pub visit-requires-clause-entry : goal.visit-requires-clause-entry
 visit-requires-clause-entry g c =
-    entry_here (g.G.Ground.stars_and_areas c.args.over.now) c.site_at-site.result c.at-node.result (option_copied c.entry-spot.result)
-    c.site_at-site.ensures.site c.site_at-site.ensures.at c.entry-spot.ensures
+    entry_here (g.G.Ground.stars_and_areas c.args.over.now) c.at-site.result c.at-node.result (option_copied c.entry-spot.result)
+    c.at-site.ensures.site c.at-site.ensures.at c.entry-spot.ensures
 
 pub loop-next-preserved : goal.loop-next-preserved
 loop-next-preserved g c =
@@ -59,22 +59,22 @@ loop-next-preserved g c =
     walked_step step c.args.starts.now c.loop-next.found c.visit.new.found k n c.loop-next.invariant.walked c.at-node.ensures grown in
     let done : take (suc k) c.visit.new.found ≡ take k c.loop-next.found ++ n ∷ [] =
     ap (take (suc k)) grown.is ∙ take_at c.loop-next.found grown.more k n c.at-node.ensures in
-    let area : least_area_at G n.at ≡ c.site_at-site.result.area =
-    ap (least_area_at G) (sym c.site_at-site.ensures.at) ∙ sym c.site_at-site.ensures.site.area in
+    let area : least_area_at G n.at ≡ c.at-site.result.area =
+    ap (least_area_at G) (sym c.at-site.ensures.at) ∙ sym c.at-site.ensures.site.area in
     let dirt : IsDirtOf G (take (suc k) c.visit.new.found) c.dirt_after-least.result =
     subst₂ (IsDirtOf G) (sym done) (sym c.dirt_after-least.ensures)
-    (dirt_step G (take k c.loop-next.found) n c.loop-next.least c.site_at-site.result.area area c.loop-next.invariant.dirt) in
+    (dirt_step G (take k c.loop-next.found) n c.loop-next.least c.at-site.result.area area c.loop-next.invariant.dirt) in
     let pushed : c.push.new.self.items ≡ seen ++ one ∷ [] = c.in_ok-push.ensures.items in
     record {
       within = omega (arith, ap length grown.is, length-append c.loop-next.found grown.more, c.loop-next-test.true, c.len.ensures.len);
       nodes = rw (add-one k) (ap nodes_of pushed ∙ nodes_end seen one ∙ ap (λ ns. ns ++ n ∷ []) c.loop-next.invariant.nodes ∙ sym done);
       entries = subst (HaveEntries G) (sym pushed) (entries_end G seen one c.loop-next.invariant.entries
-          (entry_here G c.site_at-site.result n (option_copied c.entry-spot.result) c.site_at-site.ensures.site c.site_at-site.ensures.at c.entry-spot.ensures));
-      site = c.site_at-site.ensures.site;
+          (entry_here G c.at-site.result n (option_copied c.entry-spot.result) c.at-site.ensures.site c.at-site.ensures.at c.entry-spot.ensures));
+      sites = c.at-site.ensures.kept;
       walked = rw (add-one k) walked;
       dirt = rw (add-one k) dirt;
-      rises = omega (arith, c.loop-next.invariant.rises, c.site_at-site.ensures.never_falls, c.visit.ensures.never_falls);
-      counted = λ once. omega (arith, c.loop-next.invariant.counted once, c.site_at-site.ensures.once, c.in_ok-visit.ensures.once once);
+      rises = omega (arith, c.loop-next.invariant.rises, c.at-site.ensures.never_falls, c.visit.ensures.never_falls);
+      counted = λ once. omega (arith, c.loop-next.invariant.counted once, c.at-site.ensures.once, c.in_ok-visit.ensures.once once);
     }
 
 pub returns-clause-nodes : goal.returns-clause-nodes

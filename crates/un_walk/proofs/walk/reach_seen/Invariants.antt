@@ -1,7 +1,7 @@
-use Rattle.std.proofs.Common.{◌≡◌, ◌≤◌, ◌+◌, ◌-◌, ◌^◌, length, take, IfSome}
+use Rattle.std.proofs.Common.{◌≡◌, ◌≤◌, ◌+◌, ◌-◌, ◌^◌, length, take}
 use Rattle.un_defs.specs.Reach.{leads}
 use Rattle.un_walk.specs.Seen.{nodes_of, HaveEntries}
-use Rattle.un_walk.specs.Site.{IsSite}
+use Rattle.un_walk.specs.Site.{AreSites}
 use Rattle.un_walk.specs.Ticks.{IsLookedUpOnce}
 use Rattle.un_walk.proofs.Walked.{Walked}
 use Rattle.un_walk.proofs.DirtMet.{IsDirtOf}
@@ -14,7 +14,7 @@ invariant-loop-next g l = record {
   within : l.next ≤ length l.found;
   nodes : nodes_of l.seen.items ≡ take l.next l.found;
   entries : HaveEntries (g.G.Ground.stars_and_areas l.over) l.seen.items;
-  site : IfSome l.last (IsSite (g.G.Ground.stars_and_areas l.over));
+  sites : AreSites (g.G.Ground.stars_and_areas l.over) l.sites;
   walked : Walked (leads (g.G.Ground.stars_and_areas l.over) l.barriers l.mode) l.starts l.found l.next;
   dirt : IsDirtOf (g.G.Ground.stars_and_areas l.over) (take l.next l.found) l.least;
   rises : l.fn.steps ≤ l.steps;
