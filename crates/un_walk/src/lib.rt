@@ -11,19 +11,19 @@
 //!
 //! # How it is found
 //!
-//! [`walk::reach_seen`] keeps the nodes found so far as a list without repeats ([`found::Found`]): first the starts, then each further node as
-//! it is found. It takes the nodes of the list in order. Of each it asks the ground for the star and the least dirty area at its point, unless
-//! the node before it stands there too ([`site::site_at`]). If a walk may go on from the node, it adds what the node's links lead to, unless the
-//! list has it ([`walk::visit`], [`traversal::follow`]). It is done once it has taken the last node. The dirt is kept on the way: the least so
-//! far, by area, then port ([`dirt::dirt_after`]). So are the nodes with their entries, which callers need for their results. [`walk::reach`] is
-//! the same without the entries.
+//! [`walk::reach_seen`] keeps the nodes found so far as an indexed set ([`found::Found`]), which has each once and in the order of finding:
+//! first the starts, then each further node as it is found. It takes the nodes in this order. Of each it asks for the star and the least
+//! dirty area at its point ([`site::Sites`]), which looks them up unless it remembers them: the nodes at one point are reached at several
+//! moments. If a walk may go on from the node, it adds what the node's links lead to, unless it is there ([`walk::visit`],
+//! [`traversal::follow`]). It is done once it has taken the last node. The dirt is kept on the way: the least so far, by area, then port
+//! ([`dirt::dirt_after`]). So are the nodes with their entries, which callers need for their results. [`walk::reach`] is the same without the
+//! entries.
 //!
 //! # Why that is enough
 //!
 //! Three facts hold before each node is taken. Each node of the list is reached, since it is a start or a link leads to it from a node of the
 //! list that is open. Each start is in the list. Each node to which a walk goes on from a node that was taken is in the list. When all have
-//! been taken, the third fact says that no walk leaves the list, so it has exactly the reached nodes. A set beside the list tells at once
-//! whether it has a node, and at the end the list is sorted.
+//! been taken, the third fact says that no walk leaves the list, so it has exactly the reached nodes. At the end they are sorted.
 //!
 //! A set of the ground's nodes is not known to be finite, but a list in memory has fewer than 2^64 nodes, so it comes to an end, or to the
 //! end of memory.
@@ -33,9 +33,9 @@
 //!
 //! # What it costs
 //!
-//! At most one look-up of an area and one of a star for each node that is reached, and one look-up in a hash set for each link of an open node
-//! that the mode takes. Only where a tier is asked for and a path leads to another point is one more star looked up. Sorting the nodes
-//! takes n log n comparisons.
+//! At most one look-up of an area and one of a star for each node that is reached, mostly one for each point, and one look-up in a hash table
+//! for each link of an open node that the mode takes. Only where a tier is asked for and a path leads to another point is one more star
+//! looked up. Sorting the nodes takes n log n comparisons.
 #![tactic(auto)]
 
 mod dirt;
