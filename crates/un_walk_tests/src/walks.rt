@@ -1,8 +1,8 @@
 //! Walks through a pump between two mains.
 //!
 //! The contract of a walk bounds its count of steps, and no clause says that each look-up of a star is counted. So this ground, a list,
-//! counts how often it is asked. Each test has the number worked out by hand: one for each node that stands at another point than the node
-//! that was taken before it; and one more for each path to another point whose far controller is asked for.
+//! counts how often it is asked. Each test has the number worked out by hand: one for each point that is reached, since a walk remembers the
+//! sites at the three points of this ground; and one more for each path to another point whose far controller is asked for.
 
 ghost use Rattle.std.specs.Prelude.{[], ◌∷◌, codes};
 
