@@ -1,7 +1,7 @@
 -- What a map of links between open nodes has after one more link.
 use Rattle.std.proofs.Common.{◌≡◌, ◌≤◌, ℕ, Bool, true, false, cond, List, Option, Some, refl, sym, ap, subst₂, ◌∙◌, true≢false}
 use Rattle.std.specs.Prelude.{slice_get}
-use Rattle.std.specs.BTreeMap.{BTreeMap}
+use Rattle.indexmap.specs.IndexMap.{IndexMap}
 use Rattle.std.specs.List.Sorted.{IsStrictlySortedBy}
 use Rattle.std.specs.Ordering.{is_eq, is_lt}
 use Rattle.un_defs.specs.declared.link.LinkName.{LinkName}
@@ -33,7 +33,7 @@ module _ (tier : Option ℕ) (nodes : List OpenNode) where
   before_leads_not sorted i j t one at_one low before l =
       true≢false (sym before ∙ ap (λ m. is_lt (node_cmp m one.node)) l.to ∙ not_before nodes sorted i j one l.other low at_one l.at_other)
 
-  module _ (old new : BTreeMap LinkName Link) (key : LinkName) (link : Link)
+  module _ {S : Type 0} (old new : IndexMap LinkName Link S) (key : LinkName) (link : Link)
       (updated : (x : LinkName) → link_named new x ≡ cond (is_eq (name_cmp key x)) (Some link) (link_named old x)) where
     pub between_with : AreBetween tier nodes old → IsLinkedAt tier nodes key link.a link.b → AreBetween tier nodes new
     between_with before here x l at = go (is_eq (name_cmp key x)) refl (sym (updated x) ∙ at)

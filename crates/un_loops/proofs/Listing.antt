@@ -26,13 +26,13 @@ use Rattle.un_loops.specs.Answer.{LoopListLaw}
 abbrev numbers : Segment → List ℕ
 numbers s = s.line ∷ s.index ∷ []
 
-segment_total : IsTotalOrder segment_cmp
+pub segment_total : IsTotalOrder segment_cmp
 segment_total = by_numbers_total numbers
 
 segment_from : List ℕ → Segment
 segment_from xs = record { line = slice_index xs 0; index = slice_index xs 1 }
 
-segment_ties : IsAntisymmetric segment_cmp
+pub segment_ties : IsAntisymmetric segment_cmp
 unfolding segment_from
 segment_ties = by_numbers_ties numbers segment_from given
   where

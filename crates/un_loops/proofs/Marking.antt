@@ -1,16 +1,17 @@
 -- The segments among names of which some are marked.
-use Rattle.std.proofs.Common.{◌≡◌, ℕ, zero, suc, ◌↔◌, Bool, true, false, List, [], ◌∷◌, Some, inl, inr, refl, ap, ◌∙◌}
+use Rattle.std.proofs.Common.{◌≡◌, ℕ, zero, suc, ◌↔◌, Bool, true, false, List, [], ◌∷◌, Some, Ordering, Less, Equal, Greater, nat_cmp, inl, inr, refl, ap, ◌∙◌}
 use Rattle.std.specs.Prelude.{slice_get, Contains}
-use Rattle.std.specs.declared.cmp.Ordering.TheVariants.{Less}
-use Rattle.std.specs.List.{zip, AllByRecursion}
-use Rattle.std.specs.List.Sorted.{IsStrictlySortedBy}
+use Rattle.std.specs.List.{zip}
+use Rattle.std.specs.Ordering.{ordering_then}
 use Rattle.un_defs.specs.declared.link.LinkName.{LinkName}
 use Rattle.un_defs.specs.declared.link.LinkName.TheVariants.{Seg, Path, Coin, Assoc}
-use Rattle.un_defs.specs.Orders.{name_cmp}
-use Rattle.un_defs.proofs.Rising.{Among}
+use Rattle.un_defs.specs.Orders.{rising}
+use Rattle.un_defs.proofs.Rising.{Among, among-rising, among_from-rising}
 use Rattle.un_defs.proofs.Members.{contains_from_among, among_from_contains, among_from-filter_map, among-filter_map}
 use Rattle.un_defs.proofs.LinkCases.{some_same}
+use Rattle.un_ask.specs.contracts.results.SegmentOrd.TheImpl as by_segment
 use Rattle.un_ask.specs.declared.results.Segment.{Segment}
+use Rattle.un_loops.proofs.Listing.{segment_ties}
 use Rattle.un_loops.specs.Loops.{segment_cmp}
 use Rattle.un_loops.specs.Marked.{segment_if, marked_segments}
 
@@ -58,22 +59,18 @@ has_marked names marks s = (
 
 -- ---- their order
 
--- what is below all of the names is below the segments among them
-below_marked : (s : Segment) (names : List LinkName) (marks : List Bool) → AllByRecursion (λ x. name_cmp (name_of s) x ≡ Less) names → AllByRecursion (λ t. segment_cmp s t ≡ Less) (marked_segments names marks)
-below_marked s [] marks h = tt
-below_marked s (x ∷ names) [] h = tt
-below_marked s (x ∷ names) (false ∷ marks) h = below_marked s names marks h.1
-below_marked s (Seg line index ∷ names) (true ∷ marks) h = (h.0, below_marked s names marks h.1)
-below_marked s (Path a b c ∷ names) (true ∷ marks) h = below_marked s names marks h.1
-below_marked s (Coin a b c d ∷ names) (true ∷ marks) h = below_marked s names marks h.1
-below_marked s (Assoc a ∷ names) (true ∷ marks) h = below_marked s names marks h.1
+at_end : (k : Ordering) → k ≡ ordering_then k Equal
+at_end Less = refl
+at_end Equal = refl
+at_end Greater = refl
 
-pub marked_rise : (names : List LinkName) (marks : List Bool) → IsStrictlySortedBy name_cmp names → IsStrictlySortedBy segment_cmp (marked_segments names marks)
-unfolding IsStrictlySortedBy
-marked_rise [] marks h = tt
-marked_rise (x ∷ names) [] h = tt
-marked_rise (x ∷ names) (false ∷ marks) h = marked_rise names marks h.1
-marked_rise (Seg line index ∷ names) (true ∷ marks) h = (below_marked (record { line = line; index = index }) names marks h.0, marked_rise names marks h.1)
-marked_rise (Path a b c ∷ names) (true ∷ marks) h = marked_rise names marks h.1
-marked_rise (Coin a b c d ∷ names) (true ∷ marks) h = marked_rise names marks h.1
-marked_rise (Assoc a ∷ names) (true ∷ marks) h = marked_rise names marks h.1
+-- the order of the code's segments is that of the definitions
+pub rises_alike : (xs : List Segment) → rising by_segment.ghosts.cmp xs ≡ rising segment_cmp xs
+rises_alike xs = λ i. rising (λ s t. ordering_then (nat_cmp s.line t.line) (at_end (nat_cmp s.index t.index) i)) xs
+
+-- in rising order the list has the same segments
+pub rising_has : (xs : List Segment) (s : Segment) → Contains (rising segment_cmp xs) s ↔ Contains xs s
+rising_has xs s = (
+  λ has. contains_from_among xs s (among_from-rising segment_cmp xs s (among_from_contains (rising segment_cmp xs) s has)),
+  λ has. contains_from_among (rising segment_cmp xs) s (among-rising segment_cmp xs (λ a b _ _ e. segment_ties a b e) s (among_from_contains xs s has)),
+)

@@ -1,16 +1,13 @@
--- A map from the names of a graph's links to these is a graph of numbered links, in the order of the names.
-use Rattle.std.proofs.Common.{◌≡◌, ℕ, zero, suc, ◌<◌, ◌↔◌, inl, inr, Bool, true, List, [], ◌∷◌, length, get_or, map, Some, Ordering, refl, sym, ap, subst, ◌∙◌, arith}
+-- A map from the names of a graph's links to these is a graph of numbered links, in the order of the map.
+use Rattle.std.proofs.Common.{◌≡◌, ℕ, zero, suc, ◌<◌, ◌↔◌, inl, inr, Bool, true, List, [], ◌∷◌, length, get_or, map, Some, refl, sym, true≢false, ap, subst, ◌∙◌, arith}
 use Rattle.std.specs.Prelude.{slice_get}
-use Rattle.std.specs.declared.cmp.Ordering.TheVariants.{Less, Equal}
-use Rattle.std.specs.Cmp.{IsTotalOrder}
-use Rattle.std.specs.Ordering.{is_eq}
-use Rattle.std.specs.BTreeMap.{BTreeMap, IsOrdered, get, keys, values, is_at}
+use Rattle.std.specs.Cmp.{IsEquivalence}
+use Rattle.indexmap.specs.IndexMap.{IndexMap, IsUnique, get, keys, values}
 use Rattle.std.proofs.lemmas.Bool.{cases_lt}
 use Rattle.std.proofs.lemmas.Option.{slice_get-get_or, slice_get_within, get_or_from_slice_get}
 use Rattle.std.proofs.lemmas.List.{length-map}
-use Rattle.std.proofs.lemmas.Cmp.{tied_itself}
-use Rattle.std.proofs.lemmas.Map.Entries.{btree_map_get_place, place_from_lookup}
-use Rattle.std.proofs.lemmas.Map.Keys.{Less-from_sorted}
+use Rattle.std.proofs.lemmas.Map.Entries.{hash_map_get_place, place_from_lookup}
+use Rattle.std.proofs.lemmas.Map.Keys.{apart_from_distinct}
 use Rattle.un_loops.specs.declared.link.Link.{Link}
 use Rattle.un_loops.specs.Graph.{IsOnCycle}
 use Rattle.un_loops.specs.Named.{IsOnLoop, AreMutual, HaveOnePair}
@@ -31,18 +28,18 @@ value_of_entry {K} (e ∷ es) d zero k l at =
 value_of_entry (e ∷ es) d (suc j) k l at = value_of_entry es d j k l at
 
 -- each link of the map is one of the graph, and each name of the graph has a link in the map
-pub record IsMapOf {K : Type 0} (linked : K → ℕ → ℕ → Type 0) (R : K → K → Ordering) (m : BTreeMap K Link) : Type 0 where
-  pub ordered : IsOrdered R m
-  pub sound : (x : K) (l : Link) → get R m x ≡ Some l → linked x l.a l.b
-  pub whole : (x : K) (u v : ℕ) → linked x u v → (l : Link) × (get R m x ≡ Some l)
+pub record IsMapOf {K S : Type 0} (linked : K → ℕ → ℕ → Type 0) (eq : K → K → Bool) (m : IndexMap K Link S) : Type 0 where
+  pub unique : IsUnique eq m
+  pub sound : (x : K) (l : Link) → get eq m x ≡ Some l → linked x l.a l.b
+  pub whole : (x : K) (u v : ℕ) → linked x u v → (l : Link) × (get eq m x ≡ Some l)
 
-module _ {K : Type 0} (R : K → K → Ordering) (total : IsTotalOrder R) (same_key : (x y : K) → is_eq (R x y) ≡ true → x ≡ y) (m : BTreeMap K Link) (d : K)
-    (linked : K → ℕ → ℕ → Type 0) (mutual_links : AreMutual linked) (one_pair : HaveOnePair linked) (is : IsMapOf linked R m) where
+module _ {K S : Type 0} (eq : K → K → Bool) (laws : IsEquivalence eq) (same_key : (x y : K) → eq x y ≡ true → x ≡ y) (m : IndexMap K Link S) (d : K)
+    (linked : K → ℕ → ℕ → Type 0) (mutual_links : AreMutual linked) (one_pair : HaveOnePair linked) (is : IsMapOf linked eq m) where
   name_at : ℕ → K
   name_at j = get_or (keys m) j d
 
   pub sound_at : (j : ℕ) (l : Link) → slice_get (values m) j ≡ Some l → linked (get_or (keys m) j d) l.a l.b
-  sound_at j l at = is.sound (get_or (keys m) j d) l (btree_map_get_place total m j (get_or (keys m) j d) l is.ordered (entry_of_value m.entries d j l at))
+  sound_at j l at = is.sound (get_or (keys m) j d) l (hash_map_get_place laws m j (get_or (keys m) j d) l is.unique (entry_of_value m.entries d j l at))
 
   numbered : AreNumbered linked (values m) (λ u. u) (λ u. u) name_at
   unfolding name_at
@@ -50,7 +47,7 @@ module _ {K : Type 0} (R : K → K → Ordering) (total : IsTotalOrder R) (same_
     sound = sound_at;
     whole = λ x u v has.
         let found = is.whole x u v has in
-        let place = place_from_lookup (is_at (R x)) m.entries found.0 found.1 in
+        let place = place_from_lookup (eq x) m.entries found.0 found.1 in
         let value = value_of_entry m.entries d place.0 place.1 found.0 place.2 in
         (place.0, found.0, value.0, value.1 ∙ sym (same_key x place.1 place.3));
     apart = λ j k j_in k_in same.
@@ -66,9 +63,8 @@ module _ {K : Type 0} (R : K → K → Ordering) (total : IsTotalOrder R) (same_
     where
       strictly : (i j : ℕ) → i < j → j < length (keys m) → get_or (keys m) i d ≡ get_or (keys m) j d → ⊥
       strictly i j low inside same =
-          let less : R (get_or (keys m) i d) (get_or (keys m) j d) ≡ Less = Less-from_sorted R (keys m) i j d is.ordered low inside in
-          let equal : R (get_or (keys m) i d) (get_or (keys m) j d) ≡ Equal = ap (R (get_or (keys m) i d)) (sym same) ∙ tied_itself total (get_or (keys m) i d) in
-          cc
+          let first : K = get_or (keys m) i d in
+          true≢false (sym (laws.refl first) ∙ ap (eq first) same ∙ apart_from_distinct eq (keys m) i j d is.unique low inside)
 
       in_keys : (k : ℕ) → k < length (values m) → k < length (keys m)
       in_keys k h = omega (arith, length-map m.entries (λ e. e.0), length-map m.entries (λ e. e.1))

@@ -1,8 +1,10 @@
 -- The orders of nodes and of names that the code compares by are those of the definitions.
-use Rattle.std.proofs.Common.{◌≡◌, true, Ordering, Less, Equal, Greater, nat_cmp, int_cmp, refl}
-use Rattle.std.specs.Ordering.{ordering_then, is_eq}
+use Rattle.std.proofs.Common.{◌≡◌, true, Ordering, Less, Equal, Greater, nat_cmp, int_cmp, refl, ap, ◌∙◌}
+use Rattle.std.specs.Ordering.{ordering_then, is_eq, eq_by_cmp}
 use Rattle.un_defs.specs.contracts.port.NodeOrd.TheImpl as by_node
 use Rattle.un_defs.specs.contracts.link.LinkNameOrd.TheImpl as by_name
+use Rattle.un_defs.specs.contracts.link.LinkNameOrd.TheImpl.Laws.{matches_eq-law}
+use Rattle.un_defs.specs.contracts.link.LinkNamePartialEq.TheImpl as equal
 use Rattle.un_defs.specs.declared.port.Node.{Node}
 use Rattle.un_defs.specs.declared.link.LinkName.{LinkName}
 use Rattle.un_defs.specs.declared.link.LinkName.TheVariants.{Seg, Path, Coin, Assoc}
@@ -52,3 +54,7 @@ from_is_eq Greater e = cc
 -- names that compare equal are one
 pub same_name : (x y : LinkName) → is_eq (name_cmp x y) ≡ true → x ≡ y
 same_name x y e = name_ties x y (from_is_eq (name_cmp x y) e)
+
+-- the code's test for one name is that of the order
+pub equals_alike : equal.ghosts.eq ≡ eq_by_cmp name_cmp
+equals_alike = λ i x y. (matches_eq-law x y ∙ ap (λ cmp. is_eq (cmp x y)) names_alike) i

@@ -1,7 +1,8 @@
 -- The open nodes by their places in a list, and the links between them.
 use Rattle.std.specs.Prelude.{◌≡◌, ℕ, ◌==◌, Bool, false, not, ◌&&◌, ◌||◌, List, map, filter, slice_get, Contains, Option, Some, is_some}
 use Rattle.std.specs.Option.{option_map_or}
-use Rattle.std.specs.BTreeMap.{BTreeMap, get}
+use Rattle.std.specs.Ordering.{eq_by_cmp}
+use Rattle.indexmap.specs.IndexMap.{IndexMap, get}
 use Rattle.un_defs.specs.declared.port.Node.{Node}
 use Rattle.un_defs.specs.declared.link.LinkName.{LinkName}
 use Rattle.un_defs.specs.declared.link.Tie.{Tie}
@@ -71,17 +72,17 @@ pub record AreWellLinked (tier : Option ℕ) (nodes : List OpenNode) : Type 0 wh
   pub one_pair : HaveOnePair (IsLinkedAt tier nodes)
 
 -- the link that a map has for the name
-abbrev pub link_named : BTreeMap LinkName Link → LinkName → Option Link
-link_named links x = get name_cmp links x
+abbrev pub link_named : {S : Type 0} → IndexMap LinkName Link S → LinkName → Option Link
+link_named links x = get (eq_by_cmp name_cmp) links x
 
 -- the map has a link of the name
-abbrev pub IsNamedIn : BTreeMap LinkName Link → LinkName → Type 0
+abbrev pub IsNamedIn : {S : Type 0} → IndexMap LinkName Link S → LinkName → Type 0
 IsNamedIn links x = (l : Link) × (link_named links x ≡ Some l)
 
 -- each link of the map is one between the places
-abbrev pub AreBetween : Option ℕ → List OpenNode → BTreeMap LinkName Link → Type 0
+abbrev pub AreBetween : {S : Type 0} → Option ℕ → List OpenNode → IndexMap LinkName Link S → Type 0
 AreBetween tier nodes links = (x : LinkName) (l : Link) → link_named links x ≡ Some l → IsLinkedAt tier nodes x l.a l.b
 
 -- the map keeps all its names
-abbrev pub KeepsNames : BTreeMap LinkName Link → BTreeMap LinkName Link → Type 0
+abbrev pub KeepsNames : {S : Type 0} → IndexMap LinkName Link S → IndexMap LinkName Link S → Type 0
 KeepsNames old new = (x : LinkName) → IsNamedIn old x → IsNamedIn new x

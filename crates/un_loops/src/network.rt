@@ -3,7 +3,6 @@
 ghost use Rattle.std.specs.Prelude.{◌≡◌, ◌<◌, ◌≤◌, ℕ, length, IfOk, OnOk};
 ghost use Rattle.std.specs.List.Sorted.{IsStrictlySortedBy};
 ghost use Rattle.std.specs.Ordering.{is_lt};
-ghost use Rattle.std.specs.declared.collections.BTreeMap.{BTreeMap};
 ghost use Rattle.un_defs.specs.declared.link.LinkName.{LinkName};
 ghost use Rattle.un_defs.specs.declared.link.Tie.{Tie};
 ghost use Rattle.un_defs.specs.Orders.{node_cmp};
@@ -13,8 +12,8 @@ ghost use Rattle.un_loops.specs.Network.{nodes_of, has_controller, shuts, LeadsT
 
 use crate::link::Link;
 use crate::nodes::{OpenNode, place_of};
+use indexmap::IndexMap;
 use std::alloc::{AllocError, Global};
-use std::collections::BTreeMap;
 use un_defs::{LinkName, Node, Spot, Tie};
 
 fn is_path(name: LinkName) -> bool
@@ -54,7 +53,7 @@ fn add_link(
     tier: Option<u8>,
     at: usize,
     tie: &Tie,
-    links: &mut BTreeMap<LinkName, Link>,
+    links: &mut IndexMap<LinkName, Link>,
 ) -> Result<(), AllocError>
     requires sorted { IsStrictlySortedBy node_cmp (nodes_of nodes.now) }
     requires has { HasTie nodes.now at tie.now }
@@ -83,7 +82,7 @@ fn add_links(
     nodes: &[OpenNode],
     tier: Option<u8>,
     at: usize,
-    links: &mut BTreeMap<LinkName, Link>,
+    links: &mut IndexMap<LinkName, Link>,
 ) -> Result<(), AllocError>
     requires sorted { IsStrictlySortedBy node_cmp (nodes_of nodes.now) }
     requires inside { at < length nodes.now }
@@ -105,14 +104,14 @@ pub(crate) fn links_between(
     alloc: Global,
     nodes: &[OpenNode],
     tier: Option<u8>,
-) -> Result<BTreeMap<LinkName, Link>, AllocError>
+) -> Result<IndexMap<LinkName, Link>, AllocError>
     requires sorted { IsStrictlySortedBy node_cmp (nodes_of nodes.now) }
     requires mutual_links { AreMutual (IsLinkedAt tier nodes.now) }
     ensures between { IfOk result (AreBetween tier nodes.now) }
     ensures whole { IfOk result (λ links. (x : LinkName) (i j : ℕ)
         → IsLinkedAt tier nodes.now x i j → IsNamedIn links x) }
 {
-    let mut links = BTreeMap::new(alloc);
+    let mut links = IndexMap::new(alloc);
     for at in 0..nodes.len() {
         add_links(nodes, tier, at, &mut links)?;
     }

@@ -17,6 +17,7 @@ use crate::nodes::OpenNode;
 use std::alloc::{AllocError, Global};
 use un_ask::Segment;
 use un_defs::LinkName;
+use un_defs::order::rising;
 
 fn segment_if(name: LinkName, is_marked: bool) -> Option<Segment>
     ensures { result ≡ segment_if name is_marked }
@@ -58,5 +59,6 @@ pub(crate) fn loop_segments(
     let names: Vec<LinkName> = links.keys().copied().collect(alloc)?;
     let list: Vec<Link> = links.values().copied().collect(alloc)?;
     let marks = on_cycles(alloc, nodes.len(), &list)?;
-    marked_segments(alloc, &names, &marks)
+    let marked = marked_segments(alloc, &names, &marks)?;
+    rising(alloc, &marked)
 }

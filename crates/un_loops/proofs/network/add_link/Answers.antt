@@ -1,10 +1,10 @@
 use Rattle.std.proofs.Common.{◌≡◌, ◌<◌, length, get_or, Some, rules, refl, sym, subst, ◌∙◌}
 use Rattle.std.specs.Prelude.{slice_get}
-use Rattle.std.specs.BTreeMap.{Updates}
+use Rattle.indexmap.specs.IndexMap.{Updates}
 use Rattle.std.proofs.lemmas.Option.{slice_get_within, slice_get-get_or, slice_get_read}
 use Rattle.un_loops.specs.declared.link.Link.{Link}
 use Rattle.un_loops.specs.declared.nodes.OpenNode.{OpenNode}
-use Rattle.un_loops.proofs.Naming.{names_alike}
+use Rattle.un_loops.proofs.Naming.{equals_alike}
 use Rattle.un_loops.proofs.Linking.{place_led_to, before_leads_not, shut_leads_not, between_with, kept_with, linked_by}
 use Rattle.un_loops.proofs.network.add_link.Goals as goal
 
@@ -61,7 +61,7 @@ returns-clause-between c =
     let at_one : slice_get nodes c.args.at ≡ Some one = slice_get_read nodes (length nodes) c.args.at one refl below c.index-nodes-at.is in
     let at_other : slice_get nodes c.in-Some.end ≡ Some other = slice_get-get_or nodes c.in-Some.end c.index-nodes-end.result inside in
     let link : Link = record { a = c.args.at; b = c.in-Some.end } in
-    let updates = subst (λ cmp. Updates cmp c.args.links.now c.insert.new.self c.args.tie.now.name (Some link)) names_alike c.in_ok-insert.ensures.updates in
+    let updates = subst (λ eq. Updates eq c.args.links.now c.insert.new.self c.args.tie.now.name (Some link)) equals_alike c.in_ok-insert.ensures.updates in
     between_with c.args.tier nodes c.args.links.now c.insert.new.self c.args.tie.now.name link updates.0 c.requires.between
     (linked_by c.args.tier nodes c.args.at c.in-Some.end c.args.tie.now one other c.requires.has at_one at_other c.in-Some.ensures
     (sym c.is_shut.ensures ∙ c.if-is_shut.false))
@@ -69,11 +69,11 @@ returns-clause-between c =
 pub returns-clause-kept : goal.returns-clause-kept
 returns-clause-kept c =
     let link : Link = record { a = c.args.at; b = c.in-Some.end } in
-    let updates = subst (λ cmp. Updates cmp c.args.links.now c.insert.new.self c.args.tie.now.name (Some link)) names_alike c.in_ok-insert.ensures.updates in
+    let updates = subst (λ eq. Updates eq c.args.links.now c.insert.new.self c.args.tie.now.name (Some link)) equals_alike c.in_ok-insert.ensures.updates in
     kept_with c.args.tier c.args.nodes.now c.args.links.now c.insert.new.self c.args.tie.now.name link updates.0
 
 pub returns-clause-added : goal.returns-clause-added
 returns-clause-added c = λ j low leads.
     let link : Link = record { a = c.args.at; b = c.in-Some.end } in
-    let updates = subst (λ cmp. Updates cmp c.args.links.now c.insert.new.self c.args.tie.now.name (Some link)) names_alike c.in_ok-insert.ensures.updates in
+    let updates = subst (λ eq. Updates eq c.args.links.now c.insert.new.self c.args.tie.now.name (Some link)) equals_alike c.in_ok-insert.ensures.updates in
     (link, updates.1)
