@@ -12,10 +12,9 @@
 //!
 //! [`answer::loops`] asks `un_walk` for the reached nodes with their entries, which come sorted, and for the dirt. Where there is no dirt it
 //! keeps the nodes that are no barrier ([`nodes::open_nodes`]); from here on a node is a number, its place in that list, and a binary search
-//! turns a node into its number. The links between these nodes go into a map by name ([`network::links_between`]). Each stands at both its ends
-//! and is taken from the earlier one. The map gives the names in order, those of segments first. What is left is a graph, with nodes from 0 and
-//! a list of links, and the question which of these lie on a cycle ([`cycles::on_cycles`]). The answer is the names of segments among them
-//! ([`segments::loop_segments`]).
+//! turns a node into its number. The links between these nodes go into an indexed map by name ([`network::links_between`]). Each stands at both
+//! its ends and is taken from the earlier one. What is left is a graph, with nodes from 0 and a list of links, and the question which of these
+//! lie on a cycle ([`cycles::on_cycles`]). The answer is the names of segments among them, sorted ([`segments::loop_segments`]).
 //!
 //! [`forest::spanning_forest`] takes each node that was not found yet as a root, and finds all that is joined to it, by a worklist. A node's
 //! place in the forest is its number in the order in which the nodes are found. A place that is no root has a parent, the earlier place that it
@@ -48,8 +47,9 @@
 //!
 //! # What it costs
 //!
-//! Beside the walk, for each link between open nodes one binary search and one step in an ordered map. The forest looks at each link twice. Each step of a climb marks a parent link, so there are at most as many steps as nodes,
-//! and each step and each link asks for a head or two. So the whole takes in the order of (V + E) log V at most.
+//! Beside the walk, for each link between open nodes one binary search and one step in a hash table, and a sort of the segments on loops. The
+//! forest looks at each link twice. Each step of a climb marks a parent link, so there are at most as many steps as nodes, and each step and
+//! each link asks for a head or two. So the whole takes in the order of (V + E) log V at most.
 #![tactic(auto)]
 
 pub mod answer;
