@@ -1,16 +1,20 @@
-//! Links with the responses that they must have: cut at every byte, with reads and writes that fail, and with heads and
-//! bodies that are refused.
+//! Links of a server over memory: each at a fresh desk, or one after another at the same one, cut at a byte, and with reads and
+//! writes that fail.
 ghost use Rattle.std.specs.Prelude.{◌≡◌, ◌∷◌, []};
 
-mod changes;
+#[cfg(test)]
 mod doors;
+#[cfg(test)]
 mod gated;
-mod heads;
-mod limits;
-mod past;
+#[cfg(test)]
+mod given;
+#[cfg(test)]
 mod pipelined;
+#[cfg(test)]
 mod seen;
+#[cfg(test)]
 mod short_door;
+#[cfg(test)]
 mod sockets;
 
 use std::alloc::{AllocError, Global};
@@ -19,7 +23,7 @@ use std::sync::Wait;
 use std::thread::Threads;
 use un_core::Net;
 use un_desk::desk::Desk;
-use un_io::{MemLink, MemSink, MemSource, Plan, Word};
+use un_io::{MemLink, MemSink, MemSource, Plan};
 use un_machine::Entry;
 use un_publish::prefix::NewLog;
 use un_publish::published::BoardName;
@@ -109,45 +113,26 @@ fn link_over(
     Ok(MemLink::new(source, sink))
 }
 
-// Whether one link with this input ends so, after exactly this output.
-fn gives<R: Threads + Wait + Sync>(
+// How one link with this input ends, and what was written to it, where its reads and its writes go so.
+fn run_by<R: Threads + Wait + Sync>(
     rt: &R,
     alloc: Global,
     input: &[u8],
     (reads, writes): (Calls, Calls),
-    output: &[u8],
-    end: LinkEnd,
-) -> Result<bool, AllocError> {
-    let mut link = [link_over(alloc, input, reads, writes)?];
-    let found = serve(rt, alloc, link.as_mut_slice());
-    Ok(found == Some(end) && link[0].bytes() == output)
+) -> Result<(Option<LinkEnd>, MemLink), AllocError> {
+    let mut links = [link_over(alloc, input, reads, writes)?];
+    let end = serve(rt, alloc, links.as_mut_slice());
+    let [link] = links;
+    Ok((end, link))
 }
 
-// Whether it is so in one read, and also where the first read ends after any of the bytes.
-fn gives_however_cut<R: Threads + Wait + Sync>(
+/// How one link with this input ends, and what was written to it, where its first reads give at most so many bytes.
+pub(crate) fn run_link<R: Threads + Wait + Sync>(
     rt: &R,
     alloc: Global,
     input: &[u8],
-    output: &[u8],
-    end: LinkEnd,
-) -> Result<bool, AllocError> {
-    for cut in 1..=input.len() {
-        let reads = Calls {
-            cuts: &[cut],
-            ..WHOLE
-        };
-        if !gives(rt, alloc, input, (reads, WHOLE), output, end)? {
-            return Ok(false);
-        }
-    }
-    gives(rt, alloc, input, (WHOLE, WHOLE), output, end)
-}
-
-// The words of a command line.
-fn words_of(alloc: Global, texts: &[&str]) -> Result<Vec<Word>, AllocError> {
-    let mut words = Vec::new(alloc);
-    for text in texts {
-        words.push(Word::new(String::from_str(alloc, text)?))?;
-    }
-    Ok(words)
+    cuts: &[usize],
+) -> Result<(Option<LinkEnd>, MemLink), AllocError> {
+    let reads = Calls { cuts, ..WHOLE };
+    run_by(rt, alloc, input, (reads, WHOLE))
 }

@@ -1,6 +1,7 @@
 //! The status of a server whose schema fails to come or is refused, and whose door fails, at each of their calls.
 
-use super::{Calls, WHOLE, link_over, plan, words_of};
+use super::{Calls, WHOLE, link_over, plan};
+use crate::scripts::words_of;
 use std::alloc::{AllocError, Global};
 use std::sync::Wait;
 use std::test::Fail;
@@ -10,7 +11,7 @@ use un_serve::run_serve;
 
 const SCHEMA: &[u8] = b"{\"schema\":0}\n";
 
-const SERVE: &[&str] = &["serve", "1", "2"];
+const SERVE: &str = "serve 1 2";
 
 // A door with two links that ask for the version. The call `failing` of it fails.
 fn door_of(alloc: Global, failing: usize) -> Result<MemDoor, AllocError> {
@@ -25,18 +26,18 @@ fn door_of(alloc: Global, failing: usize) -> Result<MemDoor, AllocError> {
 fn ends<R: Threads + Wait + Sync>(
     rt: &R,
     alloc: Global,
-    (words, schema): (&[&str], &[u8]),
+    (command, schema): (&str, &[u8]),
     (reads, failing): (Calls, usize),
     status: u8,
 ) -> Result<bool, AllocError> {
-    let words = words_of(alloc, words)?;
+    let words = words_of(alloc, command)?;
     let mut schema = MemSource::new(schema.to_vec(alloc)?, plan(alloc, reads)?);
     let mut door = door_of(alloc, failing)?;
     Ok(run_serve(rt, alloc, words.as_slice(), &mut schema, &mut door) == status)
 }
 
 // Words and what comes for a schema, which call of the door fails, and the status.
-const SERVERS: [(&[&str], &[u8], usize, u8); 12] = [
+const SERVERS: [(&str, &[u8], usize, u8); 12] = [
     (SERVE, SCHEMA, usize::MAX, 0),
     (SERVE, b"\n{\"schema\":0}", usize::MAX, 0),
     (SERVE, SCHEMA, 0, 5),
@@ -45,10 +46,10 @@ const SERVERS: [(&[&str], &[u8], usize, u8); 12] = [
     (SERVE, b"", usize::MAX, 6),
     (SERVE, b"{\"schema\":3}\n{\"schema\":0}\n", usize::MAX, 6),
     (SERVE, b"[[[[[\xff", usize::MAX, 6),
-    (&["serve", "1"], SCHEMA, usize::MAX, 2),
-    (&["serve", "0", "1"], SCHEMA, usize::MAX, 2),
-    (&["serve", "1", "65"], SCHEMA, usize::MAX, 2),
-    (&["script"], SCHEMA, usize::MAX, 2),
+    ("serve 1", SCHEMA, usize::MAX, 2),
+    ("serve 0 1", SCHEMA, usize::MAX, 2),
+    ("serve 1 65", SCHEMA, usize::MAX, 2),
+    ("script", SCHEMA, usize::MAX, 2),
 ];
 
 // The first of these that ends otherwise.
@@ -57,8 +58,8 @@ fn first_other<R: Threads + Wait + Sync>(
     alloc: Global,
 ) -> Result<Option<usize>, AllocError> {
     for at in 0..SERVERS.len() {
-        let (words, schema, failing, status) = SERVERS[at];
-        if !ends(rt, alloc, (words, schema), (WHOLE, failing), status)? {
+        let (command, schema, failing, status) = SERVERS[at];
+        if !ends(rt, alloc, (command, schema), (WHOLE, failing), status)? {
             return Ok(Some(at));
         }
     }

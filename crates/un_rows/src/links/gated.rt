@@ -2,7 +2,8 @@
 //! serve one link after another fail where the link that came first is the one that waits.
 
 use super::seen::{INPUTS, OUTPUTS};
-use super::{WHOLE, link_over, words_of};
+use super::{WHOLE, link_over};
+use crate::scripts::words_of;
 use std::alloc::{AllocError, Global};
 use std::sync::{Mutex, Wait};
 use std::test::Fail;
@@ -162,7 +163,7 @@ fn serve_gated<'g, R: Threads + Wait + Sync>(
     turns: [Turn; 2],
     texts: [(&'static [u8], &'static [u8]); 2],
 ) -> Result<u8, AllocError> {
-    let words = words_of(alloc, &["serve", "1", "2"])?;
+    let words = words_of(alloc, "serve 1 2")?;
     let mut schema = SureSource::new(b"{\"schema\":0}\n".to_vec(alloc)?);
     let mut links = Vec::new(alloc);
     links.push(gated(rt, alloc, gate, turns[1], texts[1])?)?;

@@ -1,28 +1,37 @@
 //! Two requests and a part of a third one, where the input ends at every byte, and where each read and each write fails.
 
-use super::{Calls, WHOLE, gives};
+use super::given::gives;
+use super::{Calls, WHOLE};
 use std::alloc::{AllocError, Global};
 use std::sync::Wait;
 use std::test::Fail;
 use std::thread::Threads;
 use un_serve::LinkEnd;
 
+// What a link sends, and what it is answered.
+#[derive(Clone, Copy)]
+struct Talk {
+    input: &'static [u8],
+    output: &'static [u8],
+}
+
 // Two requests of 34 bytes, and a third one whose body is cut after 5 of its 9 bytes.
-const THREE: &[u8] =
-    b"GET /version HTTP/1.1\r\nHost: a\r\n\r\nGET /version HTTP/1.1\r\nHost: a\r\n\r\nPOST /commands HTTP/1.1\r\nContent-Length: 9\r\n\r\n{\"do\"";
+const TALK: Talk = Talk {
+    input: b"GET /version HTTP/1.1\r\nHost: a\r\n\r\nGET /version HTTP/1.1\r\nHost: a\r\n\r\nPOST /commands HTTP/1.1\r\nContent-Length: 9\r\n\r\n{\"do\"",
+    output: b"HTTP/1.1 200 OK\r\nContent-Type: application/json\r\nContent-Length: 28\r\n\r\n{\"ok\":\"version\",\"version\":0}HTTP/1.1 200 OK\r\nContent-Type: application/json\r\nContent-Length: 28\r\n\r\n{\"ok\":\"version\",\"version\":0}",
+};
 
 // The length of each of the first two requests, and of the response to it.
 const REQUEST: usize = 34;
 
 const RESPONSE: usize = 99;
 
-// The responses to the first two.
-const TWO: &[u8] =
-    b"HTTP/1.1 200 OK\r\nContent-Type: application/json\r\nContent-Length: 28\r\n\r\n{\"ok\":\"version\",\"version\":0}HTTP/1.1 200 OK\r\nContent-Type: application/json\r\nContent-Length: 28\r\n\r\n{\"ok\":\"version\",\"version\":0}";
-
-// The responses to the requests that are whole in so many bytes.
-fn responses_by(count: usize) -> &'static [u8] {
-    &TWO[..RESPONSE * (count / REQUEST).min(2)]
+impl Talk {
+    // The responses to the requests that are whole in so many bytes.
+    fn responses_by(&self, count: usize) -> &'static [u8] {
+        let length = RESPONSE * (count / REQUEST).min(2);
+        &self.output[..length.min(self.output.len())]
+    }
 }
 
 // How the link ends where the input ends after so many bytes.
@@ -39,10 +48,11 @@ fn end_after(count: usize) -> LinkEnd {
 fn first_other_end<R: Threads + Wait + Sync>(
     rt: &R,
     alloc: Global,
+    talk: Talk,
 ) -> Result<Option<usize>, AllocError> {
-    for count in 0..=THREE.len() {
-        let (output, end) = (responses_by(count), end_after(count));
-        if !gives(rt, alloc, &THREE[..count], (WHOLE, WHOLE), output, end)? {
+    for count in 0..=talk.input.len() {
+        let (output, end) = (talk.responses_by(count), end_after(count));
+        if !gives(rt, alloc, &talk.input[..count], (WHOLE, WHOLE), output, end)? {
             return Ok(Some(count));
         }
     }
@@ -51,7 +61,7 @@ fn first_other_end<R: Threads + Wait + Sync>(
 
 #[test]
 fn whole_requests_are_answered_before_the_input_ends(rt: HostRuntime) -> Result<(), Fail> {
-    assert_eq!(rt; first_other_end(&rt, rt.alloc())?, None);
+    assert_eq!(rt; first_other_end(&rt, rt.alloc(), TALK)?, None);
     Ok(())
 }
 
@@ -60,17 +70,25 @@ fn whole_requests_are_answered_before_the_input_ends(rt: HostRuntime) -> Result<
 fn first_other_read<R: Threads + Wait + Sync>(
     rt: &R,
     alloc: Global,
+    talk: Talk,
     size: usize,
 ) -> Result<Option<usize>, AllocError> {
     let size = size.max(1);
-    let cuts = vec![in alloc; size; THREE.len()]?;
-    for failing in 0..=THREE.len().div_ceil(size) {
+    let cuts = vec![in alloc; size; talk.input.len()]?;
+    for failing in 0..=talk.input.len().div_ceil(size) {
         let reads = Calls {
             cuts: cuts.as_slice(),
             failing,
         };
-        let output = responses_by(failing.saturating_mul(size));
-        if !gives(rt, alloc, THREE, (reads, WHOLE), output, LinkEnd::ReadFault)? {
+        let output = talk.responses_by(failing.saturating_mul(size));
+        if !gives(
+            rt,
+            alloc,
+            talk.input,
+            (reads, WHOLE),
+            output,
+            LinkEnd::ReadFault,
+        )? {
             return Ok(Some(failing));
         }
     }
@@ -80,7 +98,7 @@ fn first_other_read<R: Threads + Wait + Sync>(
 #[test]
 fn whole_requests_are_answered_before_a_read_fails(rt: HostRuntime) -> Result<(), Fail> {
     for size in [1, 7, 40] {
-        assert_eq!(rt; first_other_read(&rt, rt.alloc(), size)?, None);
+        assert_eq!(rt; first_other_read(&rt, rt.alloc(), TALK, size)?, None);
     }
     Ok(())
 }
@@ -90,18 +108,19 @@ fn whole_requests_are_answered_before_a_read_fails(rt: HostRuntime) -> Result<()
 fn first_other_write<R: Threads + Wait + Sync>(
     rt: &R,
     alloc: Global,
+    talk: Talk,
 ) -> Result<Option<usize>, AllocError> {
-    let cuts = vec![in alloc; 1; TWO.len()]?;
-    for failing in 0..TWO.len() {
+    let cuts = vec![in alloc; 1; talk.output.len()]?;
+    for failing in 0..talk.output.len() {
         let writes = Calls {
             cuts: cuts.as_slice(),
             failing,
         };
-        let output = &TWO[..failing];
+        let output = &talk.output[..failing];
         if !gives(
             rt,
             alloc,
-            THREE,
+            talk.input,
             (WHOLE, writes),
             output,
             LinkEnd::WriteFault,
@@ -114,6 +133,6 @@ fn first_other_write<R: Threads + Wait + Sync>(
 
 #[test]
 fn a_write_that_fails_leaves_what_was_written(rt: HostRuntime) -> Result<(), Fail> {
-    assert_eq!(rt; first_other_write(&rt, rt.alloc())?, None);
+    assert_eq!(rt; first_other_write(&rt, rt.alloc(), TALK)?, None);
     Ok(())
 }

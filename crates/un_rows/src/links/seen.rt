@@ -23,6 +23,7 @@ pub(super) const OUTPUTS: [&[u8]; 2] = [
 fn are_served<R: Threads + Wait + Sync>(
     rt: &R,
     alloc: Global,
+    (inputs, outputs): ([&[u8]; 2], [&[u8]; 2]),
     cut: usize,
 ) -> Result<bool, AllocError> {
     let reads = Calls {
@@ -30,14 +31,14 @@ fn are_served<R: Threads + Wait + Sync>(
         ..WHOLE
     };
     let mut links = [
-        link_over(alloc, INPUTS[0], reads, WHOLE)?,
-        link_over(alloc, INPUTS[1], reads, WHOLE)?,
+        link_over(alloc, inputs[0], reads, WHOLE)?,
+        link_over(alloc, inputs[1], reads, WHOLE)?,
     ];
     let end = serve(rt, alloc, links.as_mut_slice());
     Ok(
         end == Some(LinkEnd::Closed)
-            && links[0].bytes() == OUTPUTS[0]
-            && links[1].bytes() == OUTPUTS[1],
+            && links[0].bytes() == outputs[0]
+            && links[1].bytes() == outputs[1],
     )
 }
 
@@ -45,9 +46,10 @@ fn are_served<R: Threads + Wait + Sync>(
 fn first_other_cut<R: Threads + Wait + Sync>(
     rt: &R,
     alloc: Global,
+    (inputs, outputs): ([&[u8]; 2], [&[u8]; 2]),
 ) -> Result<Option<usize>, AllocError> {
-    for cut in 1..=INPUTS[1].len() {
-        if !are_served(rt, alloc, cut)? {
+    for cut in 1..=inputs[1].len() {
+        if !are_served(rt, alloc, (inputs, outputs), cut)? {
             return Ok(Some(cut));
         }
     }
@@ -56,6 +58,6 @@ fn first_other_cut<R: Threads + Wait + Sync>(
 
 #[test]
 fn a_second_link_sees_what_the_first_one_made(rt: HostRuntime) -> Result<(), Fail> {
-    assert_eq!(rt; first_other_cut(&rt, rt.alloc())?, None);
+    assert_eq!(rt; first_other_cut(&rt, rt.alloc(), (INPUTS, OUTPUTS))?, None);
     Ok(())
 }

@@ -1,7 +1,7 @@
 //! A server over TCP: two links at once, and a link before a door that fails.
 
 use super::short_door::{Last, ShortDoor};
-use super::words_of;
+use crate::scripts::words_of;
 use std::alloc::Global;
 use std::io;
 use std::io::{Read, Write};
@@ -76,7 +76,7 @@ fn connect(rt: &HostRuntime, address: SocketAddr) -> io::Result<TcpStream> {
 fn two_links_are_served_at_once(rt: HostRuntime) -> Result<(), Fail> {
     let alloc = rt.alloc();
     // The port is of no use: the door is there.
-    let words = words_of(alloc, &["serve", "1", "2"])?;
+    let words = words_of(alloc, "serve 1 2")?;
     let mut schema = SureSource::new(b"{\"schema\":0}\n".to_vec(alloc)?);
     let listener = TcpListener::bind(&rt, SocketAddr::from((Ipv4Addr::LOCALHOST, 0)))?;
     let address = listener.local_addr()?;
@@ -96,7 +96,7 @@ fn two_links_are_served_at_once(rt: HostRuntime) -> Result<(), Fail> {
 #[test]
 fn a_link_is_served_before_the_door_fails(rt: HostRuntime) -> Result<(), Fail> {
     let alloc = rt.alloc();
-    let words = words_of(alloc, &["serve", "1", "1"])?;
+    let words = words_of(alloc, "serve 1 1")?;
     let mut schema = SureSource::new(b"{\"schema\":0}\n".to_vec(alloc)?);
     let listener = TcpListener::bind(&rt, SocketAddr::from((Ipv4Addr::LOCALHOST, 0)))?;
     let mut client = connect(&rt, listener.local_addr()?)?;
