@@ -7,8 +7,7 @@ use Rattle.std.specs.Option.{option_copied}
 use Rattle.std.proofs.lemmas.Bool.{eq-eqb, eqb-true}
 use Rattle.un_geom.specs.Rectangle.{Rectangle}
 use Rattle.un_dirty.specs.Areas.{has_area}
-use Rattle.un_dirty.proofs.Indexed.{tie}
-use Rattle.un_dirty.proofs.Numbering.{equal}
+use Rattle.un_dirty.proofs.Numbering.{equal, tie}
 
 -- two numbers compare as equal where they are
 same_test : (n m : ℕ) → is_eq (nat_cmp n m) ≡ (m == n)

@@ -1,39 +1,17 @@
--- Numbers in cells, once some are put in or taken out.
-use Rattle.std.proofs.Common.{◌≡◌, ◌≢◌, ℕ, zero, suc, ◌+◌, ◌<◌, ◌≤◌, Bool, true, false, not, cond, List, [], ◌∷◌, ◌++◌, filter, length, take, get_or, Some, unwrap_or, refl, sym, ◌∙◌, ap, subst, arith, true≢false}
+-- Lists of areas whose numbers are in the cells.
+use Rattle.std.proofs.Common.{◌≡◌, ◌≢◌, ℕ, zero, suc, ◌+◌, ◌<◌, ◌≤◌, Bool, true, false, not, cond, List, [], ◌∷◌, ◌++◌, filter, length, take, get_or, refl, sym, subst, arith}
 use Rattle.std.specs.declared.cmp.Ordering.{Ordering}
 use Rattle.std.specs.declared.cmp.Ordering.TheVariants.{Less, Equal, Greater}
-use Rattle.std.specs.Ordering.{nat_cmp, is_eq, ordering_then}
-use Rattle.std.specs.Cmp.{Equal-is, ranked}
-use Rattle.std.specs.FinMap.{nat_cmp-IsAntisymmetric}
+use Rattle.std.specs.Ordering.{nat_cmp}
+use Rattle.std.specs.Cmp.{ranked}
 use Rattle.std.specs.List.{AllByRecursion, enumerate_from}
 use Rattle.std.specs.List.Sorted.{IsStrictlySortedBy}
-use Rattle.std.specs.Map.{lookup, remove_entry}
-use Rattle.std.specs.BTreeMap.{is_at, insert_entry}
-use Rattle.std.specs.Option.{is_some}
 use Rattle.un_geom.specs.Rectangle.{Rectangle}
 use Rattle.un_pages.specs.Pairs.{IsOrdered, IsAbove}
 use Rattle.un_dirty.specs.declared.cells.Cell.{Cell}
-use Rattle.un_dirty.specs.contracts.cells.CellOrd.TheImpl as order
-use Rattle.un_dirty.specs.Cells.{Numbers, CellMap, cell_cmp, numbers_in, has_number, is_in, level_of, cell_at, IsIndexed}
+use Rattle.un_dirty.specs.Cells.{CellMap, is_in, level_of, cell_at, IsIndexed}
 use Rattle.un_dirty.proofs.Adding.{enumerate_more, got}
-use Rattle.un_dirty.proofs.Lookups.{put_here, put_elsewhere, taken_elsewhere}
-use Rattle.un_dirty.proofs.Numbering.{equal, differ}
-
--- the order that the derive gives
-pub orders : order.ghosts.cmp ≡ cell_cmp
-orders = refl
-
--- ---- equal numbers and equal cells
-
-pub tie : (n m : ℕ) → is_eq (nat_cmp n m) ≡ true → n ≡ m
-tie n m e = nat_cmp-IsAntisymmetric n m ((Equal-is (nat_cmp n m)).0 e)
-
-pub untied : (n m : ℕ) → n ≢ m → is_eq (nat_cmp n m) ≡ false
-untied n m d = by (is_eq (nat_cmp n m)) refl
-  where
-    by : (b : Bool) → is_eq (nat_cmp n m) ≡ b → b ≡ false
-    by true e = absurd (d (tie n m e))
-    by false e = refl
+use Rattle.un_dirty.proofs.Numbering.{differ}
 
 -- what holds below a number, and of it, holds below the next one
 pub one_more : (P : ℕ → Type 0) (l : ℕ) → ((n : ℕ) → n < l → P n) → P l → (n : ℕ) → n < l + 1 → P n
@@ -43,76 +21,6 @@ one_more P l below here n h = by (nat_cmp n l) refl
     by Less e = below n (ranked n l Less (sym e))
     by Equal e = let same : n ≡ l = ranked n l Equal (sym e) in subst P (sym same) here
     by Greater e = let over : l < n = ranked n l Greater (sym e) in absurd (omega (arith, h, over))
-
-itself : (k : Cell) → cell_cmp k k ≡ Equal
-itself k =
-    ap (λ o. ordering_then o (ordering_then (nat_cmp k.column k.column) (nat_cmp k.row k.row))) (equal k.level)
-    ∙ ap (λ o. ordering_then o (nat_cmp k.row k.row)) (equal k.column)
-    ∙ equal k.row
-
-both : (a b : Ordering) → ordering_then a b ≡ Equal → (a ≡ Equal) × (b ≡ Equal)
-both Less b e = cc
-both Equal b e = (refl, e)
-both Greater b e = cc
-
-same_cell : (a b : Cell) → cell_cmp a b ≡ Equal → a ≡ b
-same_cell a b e =
-    let f = both (nat_cmp a.level b.level) (ordering_then (nat_cmp a.column b.column) (nat_cmp a.row b.row)) e in
-    let g = both (nat_cmp a.column b.column) (nat_cmp a.row b.row) f.1 in
-    let levels = nat_cmp-IsAntisymmetric a.level b.level f.0 in
-    let columns = nat_cmp-IsAntisymmetric a.column b.column g.0 in
-    let rows = nat_cmp-IsAntisymmetric a.row b.row g.1 in
-    λ i. record { level = levels i; column = columns i; row = rows i }
-
--- ---- one cell's numbers changed
-
-more_numbers : (n area : ℕ) (ns : Numbers) → has_number n ns ≡ true → has_number n (insert_entry nat_cmp ns area tt) ≡ true
-more_numbers n area ns h = by (is_eq (nat_cmp n area)) refl
-  where
-    by : (b : Bool) → is_eq (nat_cmp n area) ≡ b → has_number n (insert_entry nat_cmp ns area tt) ≡ true
-    by true e = ap is_some (subst (λ k. lookup (is_at (nat_cmp k)) (insert_entry nat_cmp ns area tt) ≡ Some tt) (sym (tie n area e)) (put_here nat_cmp equal area tt ns))
-    by false e = ap is_some (put_elsewhere nat_cmp nat_cmp-IsAntisymmetric area n tt ns e) ∙ h
-
-fewer_numbers : (n area : ℕ) (ns : Numbers) → n ≢ area → has_number n ns ≡ true → has_number n (remove_entry (is_at (nat_cmp area)) ns) ≡ true
-fewer_numbers n area ns d h = ap is_some (taken_elsewhere nat_cmp nat_cmp-IsAntisymmetric area n ns (untied n area d)) ∙ h
-
-none_there : (n : ℕ) (ns : Numbers) → length ns ≡ 0 → has_number n ns ≡ true → ⊥
-none_there n [] e h = true≢false (sym h)
-none_there n (x ∷ ns) e h = absurd (omega (arith, e))
-
-module _ (cell : Cell) (ns : Numbers) (cells : CellMap) where
-  numbers_put : numbers_in cell (insert_entry cell_cmp cells cell ns) ≡ ns
-  numbers_put = ap (λ o. unwrap_or o []) (put_here cell_cmp itself cell ns cells)
-
-  -- the numbers of the other cells stay
-  put_other : (k : Cell) (n : ℕ) → (is_in cell n cells ≡ true → has_number n ns ≡ true) → is_in k n cells ≡ true → is_in k n (insert_entry cell_cmp cells cell ns) ≡ true
-  put_other k n here h = by (is_eq (cell_cmp k cell)) refl
-    where
-      by : (b : Bool) → is_eq (cell_cmp k cell) ≡ b → is_in k n (insert_entry cell_cmp cells cell ns) ≡ true
-      by true e =
-          let same = same_cell k cell ((Equal-is (cell_cmp k cell)).0 e) in
-          subst (λ q. is_in q n (insert_entry cell_cmp cells cell ns) ≡ true) (sym same) (ap (has_number n) numbers_put ∙ here (subst (λ q. is_in q n cells ≡ true) same h))
-      by false e = ap (λ o. has_number n (unwrap_or o [])) (put_elsewhere cell_cmp same_cell cell k ns cells e) ∙ h
-
-  module _ (area : ℕ) where
-    pub number_put : ns ≡ insert_entry nat_cmp (numbers_in cell cells) area tt → is_in cell area (insert_entry cell_cmp cells cell ns) ≡ true
-    number_put e = ap (has_number area) (numbers_put ∙ e) ∙ ap is_some (put_here nat_cmp equal area tt (numbers_in cell cells))
-
-    pub kept_put : ns ≡ insert_entry nat_cmp (numbers_in cell cells) area tt → (k : Cell) → (n : ℕ) → is_in k n cells ≡ true → is_in k n (insert_entry cell_cmp cells cell ns) ≡ true
-    kept_put e k n h = put_other k n (λ g. ap (has_number n) e ∙ more_numbers n area (numbers_in cell cells) g) h
-
-    pub kept_taken : ns ≡ remove_entry (is_at (nat_cmp area)) (numbers_in cell cells) → (k : Cell) → (n : ℕ) → n ≢ area → is_in k n cells ≡ true → is_in k n (insert_entry cell_cmp cells cell ns) ≡ true
-    kept_taken e k n d h = put_other k n (λ g. ap (has_number n) e ∙ fewer_numbers n area (numbers_in cell cells) d g) h
-
-    pub kept_emptied : ns ≡ remove_entry (is_at (nat_cmp area)) (numbers_in cell cells) → length ns ≡ 0 → (k : Cell) → (n : ℕ) → n ≢ area → is_in k n cells ≡ true → is_in k n (remove_entry (is_at (cell_cmp cell)) cells) ≡ true
-    kept_emptied e empty k n d h = by (is_eq (cell_cmp k cell)) refl
-      where
-        by : (b : Bool) → is_eq (cell_cmp k cell) ≡ b → is_in k n (remove_entry (is_at (cell_cmp cell)) cells) ≡ true
-        by true t =
-            let same = same_cell k cell ((Equal-is (cell_cmp k cell)).0 t) in
-            let there : has_number n ns ≡ true = ap (has_number n) e ∙ fewer_numbers n area (numbers_in cell cells) d (subst (λ q. is_in q n cells ≡ true) same h) in
-            absurd (none_there n ns empty there)
-        by false t = ap (λ o. has_number n (unwrap_or o [])) (taken_elsewhere cell_cmp same_cell cell k cells t) ∙ h
 
 -- ---- lists of areas
 

@@ -4,6 +4,7 @@ use Rattle.std.specs.declared.cmp.Ordering.{Ordering}
 use Rattle.std.specs.declared.cmp.Ordering.TheVariants.{Less, Equal, Greater}
 use Rattle.std.specs.Ordering.{nat_cmp, is_eq}
 use Rattle.std.specs.Cmp.{nat_cmp_is, ranked}
+use Rattle.std.specs.FinMap.{nat_cmp-IsAntisymmetric}
 use Rattle.std.specs.List.{AllByRecursion}
 use Rattle.std.specs.List.Sorted.{IsStrictlySortedBy}
 use Rattle.std.specs.Map.{lookup}
@@ -14,21 +15,13 @@ use Rattle.un_geom.specs.declared.point.Point.{Point}
 use Rattle.un_geom.specs.Rectangle.{Rectangle}
 use Rattle.un_geom.specs.Places.{covers}
 use Rattle.un_pages.specs.Pairs.{IsOrdered, IsAbove}
-use Rattle.un_dirty.specs.Cells.{Numbers, CellMap, has_number, is_in, level_of, cell_at, is_covered, covers_at, lesser_of, IsAtMost, IsIndexed}
-use Rattle.un_dirty.proofs.Numbering.{equal}
-use Rattle.un_dirty.proofs.Indexed.{tie}
+use Rattle.un_dirty.specs.Cells.{CellMap, is_in, level_of, cell_at, is_covered, covers_at, lesser_of, IsAtMost, IsIndexed}
+use Rattle.un_dirty.proofs.Lookups.{found_above}
+use Rattle.un_dirty.proofs.Numbering.{equal, tie}
 
 module _ {V : Type 0} where
   key_above : (m n : ℕ) (v : V) (l : List (ℕ × V)) → IsAbove nat_cmp m l → lookup (is_at (nat_cmp n)) l ≡ Some v → m < n
-  key_above m n v [] h e = cc
-  key_above m n v (x ∷ l) h e = by (is_eq (nat_cmp n x.0)) refl (key_above m n v l h.1) e
-    where
-      by : (b : Bool) → is_eq (nat_cmp n x.0) ≡ b → (lookup (is_at (nat_cmp n)) l ≡ Some v → m < n) → cond b (Some x.1) (lookup (is_at (nat_cmp n)) l) ≡ Some v → m < n
-      by true t ih e =
-          let same : n ≡ x.0 = tie n x.0 t in
-          let low : m < x.0 = ranked m x.0 Less (sym h.0) in
-          omega (arith, same, low)
-      by false t ih e = ih e
+  key_above m n v l h e = ranked m n Less (sym (found_above nat_cmp nat_cmp-IsAntisymmetric m n l h (ap is_some e)))
 
   -- the first that passes is at most any that passes
   pub first_at_most : (T : ℕ × V → Bool) (n : ℕ) (v : V) (l : List (ℕ × V)) → IsOrdered nat_cmp l → lookup (is_at (nat_cmp n)) l ≡ Some v → T (n, v) ≡ true
@@ -59,27 +52,6 @@ area_over p n areas h = by (lookup (is_at (nat_cmp n)) areas) refl h
     by : (o : Option Rectangle) → lookup (is_at (nat_cmp n)) areas ≡ o → is_covered p o ≡ true → IsArea p n areas
     by None e h = absurd (true≢false (sym h))
     by (Some r) e h = record { rect = r; at = e; over = h }
-
--- ---- of one cell's numbers
-
-pub first_sound : (t : ℕ → Bool) (numbers : Numbers) (r : Option ℕ) → r ≡ option_map (λ e. e.0) (find (λ e. t e.0) numbers) → IfSome r (λ n. t n ≡ true)
-first_sound t numbers r e = subst (λ o. IfSome o (λ n. t n ≡ true)) (sym e) (go numbers)
-  where
-    go : (numbers : Numbers) → IfSome (option_map (λ e. e.0) (find (λ e. t e.0) numbers)) (λ n. t n ≡ true)
-    go [] = tt
-    go (x ∷ l) = by (t x.0) refl (go l)
-      where
-        by : (b : Bool) → t x.0 ≡ b → IfSome (option_map (λ e. e.0) (find (λ e. t e.0) l)) (λ n. t n ≡ true) → IfSome (option_map (λ e. e.0) (cond b (Some x) (find (λ e. t e.0) l))) (λ n. t n ≡ true)
-        by true h ih = h
-        by false h ih = ih
-
-pub first_least : (t : ℕ → Bool) (numbers : Numbers) (r : Option ℕ) → IsOrdered nat_cmp numbers → r ≡ option_map (λ e. e.0) (find (λ e. t e.0) numbers)
-    → (n : ℕ) → has_number n numbers ≡ true → t n ≡ true → IsAtMost r n
-first_least t numbers r s e n h g = subst (λ o. IsAtMost o n) (sym e) (by (lookup (is_at (nat_cmp n)) numbers) refl h)
-  where
-    by : (o : Option (Unit {0})) → lookup (is_at (nat_cmp n)) numbers ≡ o → is_some o ≡ true → IsAtMost (option_map (λ e. e.0) (find (λ e. t e.0) numbers)) n
-    by None i h = absurd (true≢false (sym h))
-    by (Some v) i h = first_at_most (λ e. t e.0) n v numbers s i g
 
 -- ---- of two
 

@@ -1,7 +1,7 @@
 -- Cells of the plane, and the numbers of the areas in them.
-use Rattle.std.specs.Prelude.{◌≡◌, ◌≢◌, ℕ, ◌-◌, ◌/◌, ◌^◌, ◌<◌, ◌≤◌, min, max, ℤ, pos, neg_ℤ, ◌-ℤ◌, unsigned_abs, Bool, true, false, List, [], Option, None, Some, unwrap_or}
+use Rattle.std.specs.Prelude.{◌≡◌, ◌≢◌, ℕ, ◌-◌, ◌/◌, ◌^◌, ◌<◌, ◌≤◌, min, max, ℤ, pos, neg_ℤ, ◌-ℤ◌, unsigned_abs, Bool, true, false, List, Option, None, Some}
 use Rattle.std.specs.declared.cmp.Ordering.{Ordering}
-use Rattle.std.specs.Ordering.{nat_cmp, ordering_then}
+use Rattle.std.specs.Ordering.{nat_cmp, is_eq, ordering_then}
 use Rattle.std.specs.Int.{leading_zeros, w32}
 use Rattle.std.specs.List.{AllByRecursion}
 use Rattle.std.specs.Map.{lookup}
@@ -11,30 +11,34 @@ use Rattle.un_geom.specs.declared.point.Point.{Point}
 use Rattle.un_geom.specs.Rectangle.{Rectangle}
 use Rattle.un_geom.specs.Places.{covers}
 use Rattle.un_dirty.specs.declared.cells.Cell.{Cell}
+use Rattle.un_dirty.specs.declared.cells.Entry.{Entry}
 use Rattle.un_dirty.specs.Areas.{IsUnder}
 
--- numbers, as the keys of a map
-abbrev pub Numbers : Type 0
-Numbers = List (ℕ × Unit {0})
-
--- cells, each with the numbers in it
+-- the numbers of areas in cells, as the keys of a map
 abbrev pub CellMap : Type 0
-CellMap = List (Cell × Numbers)
+CellMap = List (Entry × Unit {0})
 
 -- cells compare by level, then column, then row
 abbrev pub cell_cmp : Cell → Cell → Ordering
 cell_cmp a b = ordering_then (nat_cmp a.level b.level) (ordering_then (nat_cmp a.column b.column) (nat_cmp a.row b.row))
 
--- the numbers in a cell
-abbrev pub numbers_in : Cell → CellMap → Numbers
-numbers_in k cells = unwrap_or (lookup (is_at (cell_cmp k)) cells) []
+-- entries compare by cell, then number
+abbrev pub entry_cmp : Entry → Entry → Ordering
+entry_cmp a b = ordering_then (cell_cmp a.cell b.cell) (nat_cmp a.number b.number)
 
-abbrev pub has_number : ℕ → Numbers → Bool
-has_number n numbers = is_some (lookup (is_at (nat_cmp n)) numbers)
+abbrev pub same_cell : Cell → Cell → Bool
+same_cell a b = is_eq (cell_cmp a b)
+
+abbrev pub entry_of : Cell → ℕ → Entry
+entry_of k n = record { cell = k; number = n }
+
+-- the least entry of a cell
+abbrev pub first_entry : Cell → Entry
+first_entry k = entry_of k 0
 
 -- the number is in the cell
 abbrev pub is_in : Cell → ℕ → CellMap → Bool
-is_in k n cells = has_number n (numbers_in k cells)
+is_in k n cells = is_some (lookup (is_at (entry_cmp (entry_of k n))) cells)
 
 -- each number stays in its cells
 abbrev pub Keeps : CellMap → CellMap → Type 0

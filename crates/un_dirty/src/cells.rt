@@ -2,21 +2,22 @@
 //!
 //! The plane is cut into square cells, once for each of 20 levels: those of level 0 have sides of 4,096 mm, and those of each further level
 //! sides twice as long as those of the level before. An area belongs to the least level whose cells are longer than its longer side, so it
-//! lies in at most four cells of its level. Its number stands in each of them.
+//! lies in at most four cells of its level. For each of them one ordered map has an entry, whose key is the cell and the area's number.
+//! Keys compare by cell first, so the entries of one cell follow one another in the map, by rising number.
 //!
-//! A point lies in one cell of each level. The number of an area that covers it stands in its cell of the area's level. So the least number
-//! of an area over the point is found among the numbers in the point's cells: of each cell it takes the first whose area covers the point.
-//! The area is looked up by its number, so nothing rests on a cell having no other numbers.
-ghost use Rattle.std.specs.Prelude.{◌≡◌, ◌≢◌, ℕ, ◌+◌, ◌<◌, ◌≤◌, ◌^◌, true, find, length, IfOk, OnOk, IfSome};
-ghost use Rattle.std.specs.Option.{option_map};
-ghost use Rattle.std.specs.Ordering.{nat_cmp};
+//! A point lies in one cell of each level. An area that covers it has an entry in the point's cell of the area's level. So the least number
+//! of an area over the point is found among the entries of the point's cells: of each cell it is the first whose area covers the point. The
+//! area is looked up by its number, so nothing rests on a cell having no other entries.
+//!
+//! The map has a shared value beside each key. There is nothing to say there, so the entries that one call adds share one empty value, and an
+//! entry takes no memory but its place in a page.
+ghost use Rattle.std.specs.Prelude.{◌≡◌, ◌≢◌, ℕ, ◌+◌, ◌<◌, ◌≤◌, ◌^◌, true, length, IfOk, OnOk, IfSome};
 ghost use Rattle.std.specs.List.{AllByRecursion, enumerate_from};
 ghost use Rattle.un_geom.specs.declared.point.Point.{Point};
 ghost use Rattle.un_geom.specs.Rectangle.{IsBounded};
 ghost use Rattle.un_geom.specs.Places.{covers};
-ghost use Rattle.un_pages.specs.Pairs.{IsOrdered};
 ghost use Rattle.un_dirty.specs.declared.cells.Cell.{Cell};
-ghost use Rattle.un_dirty.specs.Cells.{numbers_in, is_in, level_of, cell_index, cell_at, covers_at, lesser_of, IsLeastIn, IsLeastOver, IsIndexed, FillsRow, FillsBlock, FillsCells, Keeps, KeepsOthers, KeepsBut};
+ghost use Rattle.un_dirty.specs.Cells.{first_entry, is_in, same_cell, level_of, cell_index, cell_at, covers_at, lesser_of, IsLeastIn, IsLeastOver, IsIndexed, FillsRow, FillsBlock, FillsCells, Keeps, KeepsOthers, KeepsBut};
 
 use std::alloc::Global;
 use std::ops::Bound;
@@ -38,11 +39,15 @@ pub(crate) struct Cell {
     row: u32,
 }
 
-/// The numbers of areas.
-type Numbers = Paged<u64, ()>;
+/// A cell, and the number of an area that lies in it.
+#[derive(Clone, Copy, PartialEq, Eq, PartialOrd, Ord)]
+pub(crate) struct Entry {
+    cell: Cell,
+    number: u64,
+}
 
-/// The cells in which areas lie, each with their numbers.
-pub(crate) type Cells = Paged<Cell, Numbers>;
+/// The cells in which areas lie, with the numbers of the areas.
+pub(crate) type Cells = Paged<Entry, ()>;
 
 // The level to which an area belongs.
 #[tactic(auto, unfolding(crate::specs::Cells::level_of))]
@@ -108,23 +113,19 @@ fn high_cell(level: u32, rect: &Rect) -> Cell
     }
 }
 
-fn numbers_of(cells: &Cells, cell: &Cell) -> Result<Numbers, Memory>
-    ensures { IfOk result (λ numbers. numbers ≡ numbers_in cell.now cells.now) }
-{
-    match cells.get(cell) {
-        Some(numbers) => Ok(numbers.share()?),
-        None => Ok(Paged::new()),
-    }
-}
-
 // Puts the number of an area into a cell.
-fn put(cells: &mut Cells, alloc: Global, cell: Cell, area: u64) -> Result<(), Memory>
+fn put(
+    cells: &mut Cells,
+    alloc: Global,
+    cell: Cell,
+    area: u64,
+    unit: &Arc<()>,
+) -> Result<(), Memory>
     ensures here { OnOk result (is_in cell area cells.new ≡ true) }
     ensures kept { OnOk result (Keeps cells.old cells.new) }
 {
-    let numbers = numbers_of(cells, &cell)?;
-    let more = numbers.with(alloc, area, ())?;
-    cells.put(alloc, cell, Arc::new(alloc, more)?)?;
+    let entry = Entry { cell, number: area };
+    cells.put(alloc, entry, Arc::try_clone(unit)?)?;
     Ok(())
 }
 
@@ -135,6 +136,7 @@ fn put_row(
     first: Cell,
     last: u32,
     area: u64,
+    unit: &Arc<()>,
 ) -> Result<(), Memory>
     requires { last < 1_048_576 }
     ensures all { OnOk result (FillsRow area first last cells.new) }
@@ -150,6 +152,7 @@ fn put_row(
                 row: first.row,
             },
             area,
+            unit,
         )?;
     }
     Ok(())
@@ -162,6 +165,7 @@ fn put_block(
     low: Cell,
     high: Cell,
     area: u64,
+    unit: &Arc<()>,
 ) -> Result<(), Memory>
     requires column { high.column < 1_048_576 }
     requires row { high.row < 1_048_576 }
@@ -179,20 +183,27 @@ fn put_block(
             },
             high.column,
             area,
+            unit,
         )?;
     }
     Ok(())
 }
 
 // Puts the number of an area into the cells in which it lies.
-fn put_area(cells: &mut Cells, alloc: Global, rect: &Rect, area: u64) -> Result<(), Memory>
+fn put_area(
+    cells: &mut Cells,
+    alloc: Global,
+    rect: &Rect,
+    area: u64,
+    unit: &Arc<()>,
+) -> Result<(), Memory>
     ensures all { OnOk result (FillsCells area rect.now cells.new) }
     ensures kept { OnOk result (Keeps cells.old cells.new) }
 {
     let level = level(rect);
     let low = low_cell(level, rect);
     let high = high_cell(level, rect);
-    put_block(cells, alloc, low, high, area)?;
+    put_block(cells, alloc, low, high, area, unit)?;
     Ok(())
 }
 
@@ -211,11 +222,12 @@ pub(crate) fn with_areas(
     ensures kept { IfOk result (λ r. Keeps cells.now r.0) }
     ensures each { IfOk result (λ r. AllByRecursion (IsIndexed r.0 r.1) (enumerate_from first rects.now)) }
 {
+    let unit = Arc::new(alloc, ())?;
     let mut all = cells.share()?;
     let mut used = levels;
     let mut number = first;
     for rect in rects {
-        put_area(&mut all, alloc, rect, number)?;
+        put_area(&mut all, alloc, rect, number, &unit)?;
         let above = level(rect) + 1;
         used = used.max(above);
         number += 1;
@@ -227,13 +239,8 @@ pub(crate) fn with_areas(
 fn take(cells: &mut Cells, alloc: Global, cell: Cell, area: u64) -> Result<(), Memory>
     ensures { OnOk result (KeepsOthers area cells.old cells.new) }
 {
-    let numbers = numbers_of(cells, &cell)?;
-    let left = numbers.without(alloc, &area)?;
-    if left.len() == 0 {
-        cells.take(alloc, &cell)?;
-        return Ok(());
-    }
-    cells.put(alloc, cell, Arc::new(alloc, left)?)?;
+    let entry = Entry { cell, number: area };
+    cells.take(alloc, &entry)?;
     Ok(())
 }
 
@@ -310,30 +317,37 @@ fn covers_point(areas: &Paged<u64, Rect>, number: u64, p: Point) -> bool
     }
 }
 
-// The first of the numbers whose area covers the point.
-fn first_covering(areas: &Paged<u64, Rect>, numbers: &Numbers, p: Point) -> Option<u64>
-    ensures first { result ≡ option_map (λ e. e.0) (find (λ e. covers_at p e.0 areas.now) numbers.now) }
-    ensures ordered { IsOrdered nat_cmp numbers.now }
+// Where the entries of a cell begin.
+fn first_entry(cell: Cell) -> Bound<Entry>
+    ensures { result ≡ Bound.Included (first_entry cell) }
 {
-    // For the proof alone.
-    let _len = numbers.len();
-    for (number, _) in numbers.range(Bound::Unbounded) {
-        if covers_point(areas, number, p) {
-            return Some(number);
-        }
+    Bound::Included(Entry { cell, number: 0 })
+}
+
+impl Entry {
+    fn is_in(self, cell: Cell) -> bool
+        ensures { result ≡ same_cell self.cell cell }
+    {
+        self.cell == cell
     }
-    None
 }
 
 // The least of the numbers in the cell whose area covers the point.
-fn least_in(areas: &Paged<u64, Rect>, cells: &Cells, cell: &Cell, p: Point) -> Option<u64>
+fn least_in(areas: &Paged<u64, Rect>, cells: &Cells, cell: Cell, p: Point) -> Option<u64>
     ensures sound { IfSome result (λ n. covers_at p n areas.now ≡ true) }
-    ensures least { IsLeastIn cell.now p areas.now cells.now result }
+    ensures least { IsLeastIn cell p areas.now cells.now result }
 {
-    match cells.get(cell) {
-        Some(numbers) => first_covering(areas, numbers, p),
-        None => None,
+    // For the proof alone.
+    let _len = cells.len();
+    for (entry, _) in cells.range(first_entry(cell)) {
+        if !entry.is_in(cell) {
+            return None;
+        }
+        if covers_point(areas, entry.number, p) {
+            return Some(entry.number);
+        }
     }
+    None
 }
 
 fn lesser(a: Option<u64>, b: Option<u64>) -> Option<u64>
@@ -359,7 +373,7 @@ pub(crate) fn least_over(
 {
     let mut least = None;
     for level in 0..levels {
-        let found = least_in(areas, cells, &cell_of(level, p), p);
+        let found = least_in(areas, cells, cell_of(level, p), p);
         least = lesser(least, found);
     }
     least

@@ -1,12 +1,28 @@
-use Rattle.std.proofs.Common.{◌∙◌, [], unwrap_or, ap}
-use Rattle.un_dirty.specs.Cells.{has_number, covers_at}
-use Rattle.un_dirty.proofs.Least.{first_sound, first_least}
+use Rattle.std.proofs.Common.{rules, ◌≡◌, true, false, sym, ◌∙◌, ap, subst}
+use Rattle.un_pages.specs.Pairs.{from_on}
+use Rattle.un_dirty.specs.Cells.{entry_cmp, same_cell}
+use Rattle.un_dirty.proofs.Entries.{IsToCome, all_to_come, past, least_here, none_beyond}
 use Rattle.un_dirty.proofs.cells.least_in.Goals as goal
 
-pub returns-in-Some-clause-sound : goal.returns-in-Some-clause-sound
-returns-in-Some-clause-sound c = first_sound (λ n. covers_at c.args.p n c.args.areas.now) c.in-Some.numbers.now c.first_covering.result c.first_covering.ensures.first
+pub loop-entry-init : goal.loop-entry-init
+loop-entry-init c =
+    let is = c.into_iter-entry-iterator.ensures.into_iter_gives ∙ c.range-entry-items.ensures.pairs ∙ ap (λ b. from_on entry_cmp b c.args.cells.now) c.first_entry.ensures in
+    subst (IsToCome c.args.cell c.args.p c.args.areas.now c.args.cells.now) (sym is) (all_to_come c.args.cell c.args.p c.args.areas.now c.args.cells.now c.len-len.ensures.ordered)
 
-pub returns-in-Some-clause-least : goal.returns-in-Some-clause-least
-returns-in-Some-clause-least c = λ n h g.
-    first_least (λ n. covers_at c.args.p n c.args.areas.now) c.in-Some.numbers.now c.first_covering.result c.first_covering.ensures.ordered c.first_covering.ensures.first n
-    (ap (λ o. has_number n (unwrap_or o [])) c.in-Some.ensures ∙ h) g
+pub returns-then-not-is_in-clause-least : goal.returns-then-not-is_in-clause-least
+returns-then-not-is_in-clause-least c =
+    let off : same_cell c.in-Some.entry.cell c.args.cell ≡ false = search rules in
+    none_beyond c.args.cell c.args.p c.args.areas.now c.args.cells.now (c.in-Some.entry, tt) c.next.new.self
+    (subst (IsToCome c.args.cell c.args.p c.args.areas.now c.args.cells.now) c.in-Some.ensures.steps c.loop-entry.invariant) off
+
+pub returns-then-covers_point-clause-least : goal.returns-then-covers_point-clause-least
+returns-then-covers_point-clause-least c =
+    let one : same_cell c.in-Some.entry.cell c.args.cell ≡ true = search rules in
+    least_here c.args.cell c.args.p c.args.areas.now c.args.cells.now (c.in-Some.entry, tt) c.next.new.self
+    (subst (IsToCome c.args.cell c.args.p c.args.areas.now c.args.cells.now) c.in-Some.ensures.steps c.loop-entry.invariant) one
+
+pub loop-entry-preserved : goal.loop-entry-preserved
+loop-entry-preserved c =
+    past c.args.cell c.args.p c.args.areas.now c.args.cells.now (c.in-Some.entry, tt) c.next.new.self
+    (subst (IsToCome c.args.cell c.args.p c.args.areas.now c.args.cells.now) c.in-Some.ensures.steps c.loop-entry.invariant)
+    (sym c.covers_point.ensures ∙ c.if-covers_point.false)
