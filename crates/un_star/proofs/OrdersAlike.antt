@@ -9,6 +9,7 @@ use Rattle.un_defs.specs.declared.link.Tie.{Tie}
 use Rattle.un_defs.specs.contracts.star.TopoErrorOrd.TheImpl as error_order
 use Rattle.un_defs.specs.contracts.star.ErrorKindOrd.TheImpl as kind_order
 use Rattle.un_star.specs.contracts.order.ByNameOrd.TheImpl as name_order
+use Rattle.un_defs.specs.contracts.link.LinkNameOrd.TheImpl as link_order
 use Rattle.un_defs.specs.Orders.{rising, tie_cmp, error_cmp, error_rank}
 use Rattle.un_star.specs.Named.{named}
 
@@ -84,6 +85,9 @@ errors_alike e f = λ i. ordering_then (kinds_alike e.kind f.kind i) (ordering_t
 
 pub ties_alike : (s t : Tie) → name_order.ghosts.cmp (named s) (named t) ≡ tie_cmp s t
 ties_alike s t = search rules
+
+pub names_alike : (s t : Tie) → link_order.ghosts.cmp s.name t.name ≡ tie_cmp s t
+names_alike s t = search rules
 
 pub rising_by_name : (ts : List Tie) → map (λ b. b.tie) (rising name_order.ghosts.cmp (map named ts)) ≡ rising tie_cmp ts
 rising_by_name ts = ap (map (λ b. b.tie)) (rising-map named tie_cmp name_order.ghosts.cmp ties_alike ts) ∙ back (rising tie_cmp ts)

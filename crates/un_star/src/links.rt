@@ -375,6 +375,6 @@ pub(crate) fn ties_of<R: Rows>(
     add_paths(&mut ties, rows, node, row)?;
     add_coins(&mut ties, rows, meeting, node)?;
     add_associations(&mut ties, alloc, rows, node)?;
-    let ties = rising_ties(alloc, ties.as_slice())?;
+    let ties = rising_ties(alloc, ties)?;
     Ok(Ties::new(ties))
 }

@@ -1,6 +1,6 @@
 //! Links and errors in their orders.
 
-ghost use Rattle.std.specs.Prelude.{◌≡◌, IfOk, map};
+ghost use Rattle.std.specs.Prelude.{◌≡◌, IfOk, map, true};
 ghost use Rattle.un_defs.specs.Orders.{rising, tie_cmp, error_cmp};
 ghost use Rattle.un_star.specs.Named.{named};
 
@@ -38,14 +38,35 @@ fn without_names(alloc: Global, all: &[ByName]) -> Result<Vec<Tie>, AllocError>
     all.iter().map(|named| named.tie).collect(alloc)
 }
 
-/// The links in the order of their names.
-pub(crate) fn rising_ties(alloc: Global, ties: &[Tie]) -> Result<Vec<Tie>, AllocError>
-    ensures { IfOk result (λ in_order. in_order.items ≡ rising tie_cmp ties.now) }
+/// Whether the name of each link is less than that of the next one.
+#[tactic(auto, using(crate::proofs::OrdersAlike::names_alike))]
+fn are_rising(ties: &[Tie]) -> bool
+    ensures { result ≡ true → rising tie_cmp ties.now ≡ ties.now }
 {
-    let all = with_names(alloc, ties)?;
+    let count = ties.len();
+    for done in 1..count {
+        if ties[count - done - 1]
+            .name
+            .cmp(&ties[count - done].name)
+            .is_ge()
+        {
+            return false;
+        }
+    }
+    true
+}
+
+/// The links in the order of their names. Links that rise already stay as they are.
+pub(crate) fn rising_ties(alloc: Global, ties: Vec<Tie>) -> Result<Vec<Tie>, AllocError>
+    ensures { IfOk result (λ in_order. in_order.items ≡ rising tie_cmp ties.items) }
+{
+    if are_rising(ties.as_slice()) {
+        return Ok(ties);
+    }
+    let all = with_names(alloc, ties.as_slice())?;
     let all = rising(alloc, all.as_slice())?;
-    let ties = without_names(alloc, all.as_slice())?;
-    Ok(ties)
+    let sorted = without_names(alloc, all.as_slice())?;
+    Ok(sorted)
 }
 
 /// The errors in their order.
