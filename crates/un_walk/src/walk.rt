@@ -4,7 +4,7 @@ ghost use Rattle.std.specs.Prelude.{◌≡◌, ◌≤◌, ◌+◌, ◌&&◌, [],
 ghost use Rattle.std.specs.List.{list_any};
 ghost use Rattle.un_defs.specs.Ground.{entry};
 ghost use Rattle.un_defs.specs.Orders.{same_node};
-ghost use Rattle.un_defs.specs.Reach.{IsReach, leads, dirt};
+ghost use Rattle.un_defs.specs.Reach.{IsReach, leads, dirt, meets_condition};
 ghost use Rattle.un_walk.specs.Growth.{Grows};
 ghost use Rattle.un_walk.specs.Seen.{nodes_of, spot_of, HaveEntries};
 ghost use Rattle.un_walk.specs.Site.{IsSite};
@@ -17,7 +17,7 @@ use crate::site::{Site, Sites};
 use crate::traversal::{Place, follow};
 use std::alloc::{AllocError, Global};
 use un_defs::port::Nodes;
-use un_defs::{Barriers, Dirt, Ground, Mode, Node};
+use un_defs::{Barriers, Dirt, Ground, Mode, Node, Spot};
 use un_steps::Steps;
 
 /// The nodes that walks reach, rising, and the dirt that they meet.
@@ -69,6 +69,12 @@ fn is_shut_by_dirt(barriers: &Barriers, dirty_here: bool) -> bool
     barriers.consistent && dirty_here
 }
 
+fn is_shut_by_barrier(barriers: &Barriers, spot: &Spot) -> bool
+    ensures { result ≡ meets_condition barriers.now spot.now }
+{
+    barriers.are_met_by(spot)
+}
+
 /// Adds the nodes to which a walk goes on from this one.
 fn visit<G: Ground, L>(
     over: &G,
@@ -101,7 +107,7 @@ fn visit<G: Ground, L>(
     let Some(star) = site.star else {
         return Ok(());
     };
-    if barriers.are_met_by(spot) {
+    if is_shut_by_barrier(barriers, spot) {
         return Ok(());
     }
     follow(

@@ -53,7 +53,7 @@ returns-clause-next g c =
     let B = c.args.barriers.now in
     let n = c.args.one.now.node in
     let open_here : is_open G B n ≡ true = is_open_by G B c.args.mode n c.in-Some.spot.now (sym c.requires.entry ∙ ap option_copied c.in-Some.is)
-    (sym c.are_met_by.ensures ∙ c.if-are_met_by.false) (sym c.stop_at.ensures ∙ c.if-stop_at.false)
+    (sym c.is_shut_by_barrier.ensures ∙ c.if-is_shut_by_barrier.false) (sym c.stop_at.ensures ∙ c.if-stop_at.false)
     (ap (λ b. B.consistent && b) (sym (dirty_here G c.args.site.now n c.requires.site c.requires.at) ∙ sym c.is_some.ensures) ∙ sym c.is_shut_by_dirt.ensures ∙ c.if-is_shut_by_dirt.false) in
     on_ok c.follow.result _ _ (grows_same c.args.found.now c.follow.new.found (λ m. list_any (goes_by G B c.args.mode n m) (ties G n)) (leads G B c.args.mode n) (leads_open G B c.args.mode n open_here))
     c.follow.ensures.next
@@ -64,6 +64,6 @@ returns-clause-once g c =
     let B = c.args.barriers.now in
     let n = c.args.one.now.node in
     let open_here : is_open G B n ≡ true = is_open_by G B c.args.mode n c.in-Some.spot.now (sym c.requires.entry ∙ ap option_copied c.in-Some.is)
-    (sym c.are_met_by.ensures ∙ c.if-are_met_by.false) (sym c.stop_at.ensures ∙ c.if-stop_at.false)
+    (sym c.is_shut_by_barrier.ensures ∙ c.if-is_shut_by_barrier.false) (sym c.stop_at.ensures ∙ c.if-stop_at.false)
     (ap (λ b. B.consistent && b) (sym (dirty_here G c.args.site.now n c.requires.site c.requires.at) ∙ sym c.is_some.ensures) ∙ sym c.is_shut_by_dirt.ensures ∙ c.if-is_shut_by_dirt.false) in
     λ once. c.follow.ensures.once (ties_stay G B n once open_here)
