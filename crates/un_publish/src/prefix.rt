@@ -136,7 +136,9 @@ pub struct NewLog<E> {
 
 impl<E> NewLog<E> {
     /// An empty log.
-    pub fn new() -> NewLog<E> {
+    pub fn new() -> NewLog<E>
+        ensures { result.seen.log ≡ [] }
+    {
         let (seen, mut first, _second) = Seen::open(Start::alone(), 0, 0);
         NewLog {
             head: Word::tracked(0, &mut first),

@@ -1,5 +1,5 @@
 //! A network in lists.
-ghost use Rattle.std.specs.Prelude.{◌≡◌, length};
+ghost use Rattle.std.specs.Prelude.{◌≡◌, length, IfOk};
 ghost use Rattle.std.proofs.Props.{props};
 ghost use Rattle.un_defs.specs.Sound.{IsSound};
 ghost use Rattle.un_grid.specs.Grids.{IsGridOf};
@@ -41,7 +41,10 @@ impl Listed {
         plans: &[Plan],
         pairs: &[Pair],
         controller: Option<Controller>,
-    ) -> Result<Listed, NotSound> {
+    ) -> Result<Listed, NotSound>
+        ensures schema { IfOk result (λ listed. listed.schema ≡ schema) }
+        ensures controller { IfOk result (λ listed. listed.controller ≡ controller) }
+    {
         let rows = planned(alloc, &schema, plans)?;
         let assocs = paired(alloc, rows.as_slice(), pairs)?;
         if !may_control(rows.as_slice(), &controller) {
