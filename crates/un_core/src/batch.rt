@@ -93,14 +93,7 @@ impl Net {
     fn share(&self) -> Result<Net, AllocError>
         ensures { IfOk result (λ net. net ≡ self.now) }
     {
-        Ok(Net {
-            facts: self.facts.share()?,
-            kept: self.kept.share()?,
-            dirty: self.dirty.share()?,
-            stored: self.stored.share()?,
-            version: self.version,
-            ids: self.ids,
-        })
+        self.with_stored(self.stored.share()?, self.version)
     }
 
     // A batch of no edits.

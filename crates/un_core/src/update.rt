@@ -186,16 +186,19 @@ impl Net {
         self.row_by(alloc, tier, subnet, &ask)
     }
 
-    // The next network with these stored rows.
-    fn with_stored(&self, stored: StoredRows, version: u64) -> Result<Net, AllocError>
+    /// The network at a version, with these stored rows.
+    pub(crate) fn with_stored(&self, stored: StoredRows, version: u64) -> Result<Net, AllocError>
         ensures { IfOk result (λ net. net ≡ record self.now { stored = stored; version = version }) }
     {
         // For the proof alone.
         let _len = stored.len();
+        let dirty = self.dirty.share()?;
+        let kept = self.kept.share()?;
+        let facts = self.facts.share()?;
         Ok(Net {
-            facts: self.facts.share()?,
-            kept: self.kept.share()?,
-            dirty: self.dirty.share()?,
+            facts,
+            kept,
+            dirty,
             stored,
             version,
             ids: self.ids,

@@ -152,11 +152,13 @@ impl Net {
         let points = self.points_under(alloc, &areas)?;
         let rebuilt = self.rebuilt(alloc, &points, hint, since)?;
         let stored = self.marked(alloc, &rebuilt.kept, &points)?;
+        let dirty = self.dirty.clear_meeting(alloc, extent)?;
+        let facts = self.facts.share()?;
         Ok(Validated {
             net: Net {
-                facts: self.facts.share()?,
+                facts,
                 kept: rebuilt.kept,
-                dirty: self.dirty.clear_meeting(alloc, extent)?,
+                dirty,
                 stored,
                 version: self.version + 1,
                 ids: self.ids,

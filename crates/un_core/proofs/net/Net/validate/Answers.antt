@@ -32,7 +32,7 @@ invariant_of-result c =
     c.in_ok-stored.ensures
     ∙ (λ i. map (marked (changes_at (stars_of (sym c.self.view_is i).kept) (stars_of kept) (c.deref-3.ensures.value i))) (sym c.self.view_is i).stored) in
     let rows = marks_are s c.self.invariant c.args.extent c.deref.result.now areas points are kept is c.in_ok-stored.stored rows_are in
-    subst IsState (λ i. held (sym c.in_ok-share.ensures i) (sym is i) (sym c.in_ok-clear_meeting.ensures i) (sym rows i) (v + 1) ids)
+    subst IsState (λ i. held (sym c.in_ok-facts.ensures i) (sym is i) (sym c.in_ok-dirty.ensures i) (sym rows i) (v + 1) ids)
     (validated_state s c.self.invariant c.args.extent)
 
 pub returns-clause-state : goal.returns-clause-state
@@ -53,7 +53,7 @@ returns-clause-state c =
     c.in_ok-stored.ensures
     ∙ (λ i. map (marked (changes_at (stars_of (sym c.self.view_is i).kept) (stars_of kept) (c.deref-3.ensures.value i))) (sym c.self.view_is i).stored) in
     let rows = marks_are s c.self.invariant c.args.extent c.deref.result.now areas points are kept is c.in_ok-stored.stored rows_are in
-    (λ i. held (c.in_ok-share.ensures i) (is i) (c.in_ok-clear_meeting.ensures i) (rows i) (v + 1) ids)
+    (λ i. held (c.in_ok-facts.ensures i) (is i) (c.in_ok-dirty.ensures i) (rows i) (v + 1) ids)
     ∙ ap (λ t. validated t c.args.extent) c.self.view_is
 
 pub returns-clause-errors : goal.returns-clause-errors
@@ -73,7 +73,7 @@ returns-clause-cleared c =
     c.deref.ensures.value ∙ c.in_ok-areas.ensures ∙ ap (λ t. met c.args.extent t.areas) c.self.view_is in
     omega (arith, c.len.ensures, c.deref.ensures.len, ap length areas)
 
-pub returns-in_err-clear_meeting-clause-bad : goal.returns-in_err-clear_meeting-clause-bad
-returns-in_err-clear_meeting-clause-bad c =
-    let p = err_from_is_err_and c.from_residual-in_err-clear_meeting.result c.from_residual-in_err-clear_meeting.ensures.1 in
+pub returns-in_err-dirty-clause-bad : goal.returns-in_err-dirty-clause-bad
+returns-in_err-dirty-clause-bad c =
+    let p = err_from_is_err_and c.from_residual-in_err-dirty.result c.from_residual-in_err-dirty.ensures.1 in
     rw (p.1, p.2) (λ memory. absurd (memory refl))
