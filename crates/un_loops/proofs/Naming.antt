@@ -11,7 +11,8 @@ use Rattle.un_defs.specs.declared.link.LinkName.TheVariants.{Seg, Path, Coin, As
 use Rattle.un_defs.specs.Orders.{node_cmp, name_cmp}
 use Rattle.un_defs.proofs.OrderLaws.{name_ties}
 
-at_end : (k : Ordering) → k ≡ ordering_then k Equal
+-- nothing after an order changes it
+pub at_end : (k : Ordering) → k ≡ ordering_then k Equal
 at_end Less = refl
 at_end Equal = refl
 at_end Greater = refl

@@ -1,8 +1,7 @@
 -- What the status of a script says by its states, it says by its accepted commands.
-use Rattle.std.proofs.Common.{◌≡◌, ◌≢◌, ◌⊎◌, inl, inr, ℕ, Bool, true, false, List, [], ◌++◌, Option, None, Some, is_some, Result, Ok, Err, is_ok, length, refl, sym, ◌∙◌}
+use Rattle.std.proofs.Common.{◌≡◌, ◌⊎◌, inl, inr, ℕ, Bool, true, false, List, ◌++◌, Option, is_some, Result, Ok, Err, is_ok, refl, sym, ◌∙◌}
 use Rattle.std.specs.Io.KnownBytes.{IsAtEnd}
-use Rattle.un_lines.specs.Cut.{lines_of}
-use Rattle.un_lines.specs.Due.{First, Opens, Refuses, Missing, IsCutShort, first_of}
+use Rattle.un_lines.specs.Due.{First, Opens, Refuses, Missing, IsCutShort}
 use Rattle.un_lines.specs.Ending.{Ran-weaker}
 use Rattle.un_schema.specs.declared.place.Place.{Place}
 use Rattle.un_schema.specs.Catalog.{Catalog}

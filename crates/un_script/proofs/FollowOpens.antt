@@ -1,5 +1,5 @@
 -- A follower opens by a schema's line.
-use Rattle.std.proofs.Common.{◌≡◌, ℕ, List, is_some, is_ok, Result, Ok, Err, refl}
+use Rattle.std.proofs.Common.{◌≡◌, List, is_some, is_ok, Result, Ok, Err, refl}
 use Rattle.un_schema.specs.declared.place.Place.{Place}
 use Rattle.un_schema.specs.Catalog.{Catalog}
 use Rattle.un_tiers.specs.declared.tier.Tier.{Tier}

@@ -1,5 +1,5 @@
 -- What is due by the states of a network is what is due by the schema's line and the accepted commands alone.
-use Rattle.std.proofs.Common.{◌≡◌, ℕ, List, Option, None, Some, Result, Ok, Err, refl, ap}
+use Rattle.std.proofs.Common.{◌≡◌, ℕ, List, Result, Ok, Err, refl, ap}
 use Rattle.un_lines.specs.Cut.{lines_of}
 use Rattle.un_lines.specs.Alike.{BothOpen, AreAlike, same_due, same_first, state_behind}
 use Rattle.un_schema.specs.declared.place.Place.{Place}

@@ -1,6 +1,5 @@
 -- What is due for the lines of a follower.
 use Rattle.std.specs.Prelude.{ℕ, List, length, Option, None, Some, Result, Ok, Err, if◌then◌else◌}
-use Rattle.un_geom.specs.declared.point.Point.{Point}
 use Rattle.un_points.specs.PointMaps.{value_at}
 use Rattle.un_lines.specs.Rules.{Rules}
 use Rattle.un_schema.specs.declared.place.Place.{Place}

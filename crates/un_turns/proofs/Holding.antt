@@ -16,7 +16,7 @@ use Rattle.un_desk.specs.declared.desk.ViewFault.{ViewFault}
 use Rattle.un_desk.specs.declared.desk.ViewFault.TheVariants.{Ahead, Denied as NotTaught, Memory as NoMemory}
 use Rattle.un_desk.specs.declared.past.PastFault.{PastFault}
 use Rattle.un_desk.specs.declared.past.PastFault.TheVariants.{Ahead as PastAhead, Denied as PastDenied, Memory as PastMemory}
-use Rattle.un_turns.specs.Turns.{Turn, Passed, Decided, Undecided, Unprepared, Answered, Unanswered, Recalled, Unread, Unrecalled, Compared, Reversed, UnreadSpan, Uncompared, end_of, IsTurn, IsRead, IsAnswered, IsUnanswered, IsUnrecalled, IsCompared, IsReversed, IsUncompared, IsUnreached}
+use Rattle.un_turns.specs.Turns.{Turn, Passed, Decided, Undecided, Unprepared, Answered, Unanswered, Recalled, Unread, Unrecalled, Compared, Reversed, UnreadSpan, Uncompared, end_of, IsTurn, IsRead, IsAnswered, IsUnanswered, IsUnrecalled, IsCompared, IsUncompared, IsUnreached}
 use Rattle.un_turns.specs.Conversations.{Conversed, IsDecidedAt, IsLastEntry, IsAheadOf, IsNotYet, IsNotReached, IsTrueTurn, AreTrueTurns, TrueTurnsLaw}
 use Rattle.un_turns.proofs.Turning.{turn_number, all_seen, recalled_seen, compared_seen}
 

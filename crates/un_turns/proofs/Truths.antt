@@ -21,7 +21,7 @@ use Rattle.un_publish.specs.declared.session.View.{View}
 use Rattle.un_turns.proofs.Holding.{decided_here, compared_holds, uncompared_holds}
 use Rattle.un_turns.specs.Conversations.{IsTrueTurn, AreTrueTurns, IsDecidedAt, Rises, versions_of, accepted_of, denials_of, denials, waits_of, waits_due, known_after, Conversed}
 use Rattle.un_turns.specs.Served.{Answering, span_of, Exchange, requests_of, turns_of, responses_of, IsResponseOf, AreResponses, receipt_response, fault_response, view_response, past_response}
-use Rattle.un_turns.specs.Truths.{versions_in, denials_in, known_in, waits_in, accepted_in, all_accepted, all_waits, all_denials, IsTrueOf, AreTrueOf, IsSpanned, IsTrueAt, AreTrueFrom, IsTruthful, TruthLaw}
+use Rattle.un_turns.specs.Truths.{versions_in, denials_in, known_in, waits_in, accepted_in, all_accepted, all_waits, all_denials, IsTrueOf, AreTrueOf, IsTrueAt, AreTrueFrom, IsTruthful, TruthLaw}
 use Rattle.un_turns.proofs.Turning.{all_seen, versions_rise, turn_seen, turn_number, recalled_seen, compared_seen}
 use Rattle.un_turns.proofs.Owning.{all_grow}
 use Rattle.un_turns.proofs.Waiting.{waits_bounded}

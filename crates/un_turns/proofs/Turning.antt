@@ -20,7 +20,7 @@ use Rattle.un_desk.specs.declared.desk.ViewFault.TheVariants.{Ahead, Denied as N
 use Rattle.un_desk.specs.declared.past.PastFault.{PastFault}
 use Rattle.un_desk.specs.declared.past.PastFault.TheVariants.{Ahead as PastAhead, Denied as PastDenied, Memory as PastMemory}
 use Rattle.un_desk.specs.Pasts.{IsPastFault}
-use Rattle.un_turns.specs.Turns.{Turn, Passed, Decided, Undecided, Unprepared, Answered, Unanswered, Recalled, Unread, Unrecalled, Compared, Reversed, UnreadSpan, Uncompared, end_of, later_of, IsTurn, IsRead, IsOlder, IsAnswered, IsUnanswered, IsPastView, IsRecalled, IsUnrecalled, IsCompared, IsReversed, IsUncompared}
+use Rattle.un_turns.specs.Turns.{Turn, Passed, Decided, Undecided, Unprepared, Answered, Unanswered, Recalled, Unread, Unrecalled, Compared, Reversed, UnreadSpan, Uncompared, end_of, later_of, IsTurn, IsRead, IsOlder, IsAnswered, IsUnanswered, IsPastView, IsRecalled, IsUnrecalled, IsCompared, IsUncompared}
 use Rattle.un_turns.specs.Conversations.{Conversed, accepted_by, accepted_of, waits_of, wait_if_later, known_after, versions_of, Rises, SnocLaw, VersionLaw}
 
 risen_le : (n : ℕ) → risen n ≤ n + 1

@@ -12,7 +12,6 @@ use Rattle.un_turns.specs.declared.request.Response.TheVariants.{Nothing, Accept
 use Rattle.un_turns.specs.Own.{own_entries, IsWithin}
 use Rattle.un_turns.specs.Conversations.{Rises, IsLastEntry, wait_if_later, decision}
 use Rattle.un_turns.specs.Turns.{end_of}
-use Rattle.un_turns.specs.declared.request.Span.{Span}
 use Rattle.un_turns.specs.Served.{Answering, IsServed, IsReplyOf, AreServed}
 
 module _ {R A : Type 0} where

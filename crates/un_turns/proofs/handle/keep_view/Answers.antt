@@ -1,4 +1,4 @@
-use Rattle.std.proofs.Common.{sym, subst, ap}
+use Rattle.std.proofs.Common.{sym, subst}
 use Rattle.un_asof.specs.Pasts.{IsAfter}
 use Rattle.un_turns.proofs.handle.keep_view.Goals as goal
 

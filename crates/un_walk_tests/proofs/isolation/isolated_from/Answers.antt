@@ -4,7 +4,7 @@ use Rattle.un_defs.specs.declared.port.Node.{Node}
 use Rattle.un_defs.proofs.Members.{among_from_contains}
 use Rattle.un_isolate.specs.Answer.{isolation_of}
 use Rattle.un_isolate.specs.Isolation.{is_isolating}
-use Rattle.un_walk_tests.specs.Pipes.{origin, node_at, ground_of}
+use Rattle.un_walk_tests.specs.Pipes.{node_at, ground_of}
 use Rattle.un_walk_tests.proofs.PipeLinks.{pipes_linked}
 use Rattle.un_walk_tests.proofs.isolation.isolated_from.Goals as goal
 
