@@ -1,18 +1,15 @@
-//! One text for each refusal and each reply.
+//! The texts of replies that no worked script or link has: of the greatest numbers, and of a name that has to be escaped. All others stand in
+//! `examples` and in the table of `un_rows`, with the requests that have them.
 ghost use Rattle.std.specs.Prelude.{◌≡◌, [], ◌∷◌, IfOk};
 ghost use Rattle.un_schema.specs.Names.{IsName};
 ghost use Rattle.un_ask.specs.declared.reply.Reply.TheVariants.{Edited};
 
 use std::alloc::Global;
 use std::test::Fail;
-use un_ask::stored::StoredSubnet;
-use un_ask::{EditWord, Points, Refusal, Reply, Status};
-use un_defs::Ids;
-use un_defs::port::Ports;
+use un_ask::{EditWord, Refusal, Reply};
 use un_replies::{COMMAND_REPLY_ROOM, print_command_reply, print_reply};
 use un_schema::Name;
 
-mod past;
 mod queries;
 mod read_back;
 mod refusals;
@@ -51,81 +48,6 @@ fn edited(word: EditWord) -> Reply
         word,
         version: 12,
     }
-}
-
-#[test]
-fn edit_reply(rt: HostRuntime) {
-    let insert = b"{\"areas\":[4,2],\"id\":9,\"ok\":\"insert\",\"version\":12}";
-    let uncontroller = b"{\"areas\":[4,2],\"id\":9,\"ok\":\"uncontroller\",\"version\":12}";
-    assert!(rt; gives(rt.alloc(), &edited(EditWord::Insert), insert));
-    assert!(rt; gives(rt.alloc(), &edited(EditWord::Uncontroller), uncontroller));
-}
-
-#[test]
-fn batch_reply(rt: HostRuntime) -> Result<(), Fail> {
-    let reply = Reply::Batch {
-        areas: [0, 0],
-        ids: Ids::new(vec![in rt.alloc(); 5, 6, 5]?),
-        version: 3,
-    };
-    let text = b"{\"areas\":[0,0],\"ids\":[5,6,5],\"ok\":\"batch\",\"version\":3}";
-    assert!(rt; gives(rt.alloc(), &reply, text));
-    Ok(())
-}
-
-#[test]
-fn rule_reply(rt: HostRuntime) {
-    let reply = Reply::Ruled {
-        areas: [7, 1],
-        rules: 11,
-        version: 30,
-    };
-    let text = b"{\"areas\":[7,1],\"ok\":\"rule\",\"rules\":11,\"version\":30}";
-    assert!(rt; gives(rt.alloc(), &reply, text));
-}
-
-#[test]
-fn validation_reply(rt: HostRuntime) {
-    let reply = Reply::Validated {
-        cleared: 2,
-        errors: 0,
-        version: 31,
-    };
-    let text = b"{\"cleared\":2,\"errors\":0,\"ok\":\"validate\",\"version\":31}";
-    assert!(rt; gives(rt.alloc(), &reply, text));
-}
-
-#[test]
-fn removal_reply(rt: HostRuntime) {
-    let reply = Reply::Updated {
-        row: None,
-        version: 32,
-    };
-    let text = b"{\"members\":0,\"ok\":\"update\",\"status\":\"removed\",\"version\":32}";
-    assert!(rt; gives(rt.alloc(), &reply, text));
-}
-
-fn row(alloc: Global) -> Result<StoredSubnet, Fail> {
-    Ok(StoredSubnet {
-        tier: 0,
-        subnet: name(alloc, "north")?,
-        controllers: Ports::new(Vec::new(alloc)),
-        members: Ids::new(vec![in alloc; 1, 2, 4]?),
-        points: Points::new(Vec::new(alloc)),
-        updated: 8,
-        status: Status::Clean,
-    })
-}
-
-#[test]
-fn an_update_tells_how_many_members_there_are(rt: HostRuntime) -> Result<(), Fail> {
-    let reply = Reply::Updated {
-        row: Some(row(rt.alloc())?),
-        version: 8,
-    };
-    let text = b"{\"members\":3,\"ok\":\"update\",\"status\":\"clean\",\"version\":8}";
-    assert!(rt; gives(rt.alloc(), &reply, text));
-    Ok(())
 }
 
 #[test]
