@@ -2,6 +2,7 @@ ghost use Rattle.std.specs.Prelude.{◌≡◌, find};
 ghost use Rattle.std.specs.Str.{bytes_eq};
 ghost use Rattle.un_ask.specs.Words.{trace_text};
 
+use std::alloc::{AllocError, Global};
 use std::marker::Model;
 use un_conds::RawCond;
 use un_defs::port::Ports;
@@ -96,11 +97,11 @@ pub type NamedFuncs = Items<NamedFunc>;
 /// A condition as a request gives it. Contracts see what it says, and not where its parts lie.
 #[derive(Drop)]
 pub struct RawCondition {
-    raw: RawCond,
+    raw: Box<RawCond>,
 }
 
 impl Model for RawCondition {
-    ghost use Rattle.std.specs.Prelude.{List, ℕ};
+    ghost use Rattle.std.specs.Prelude.{List, ℕ, box_value};
     ghost use Rattle.un_conds.specs.Conditions.{Condition};
     ghost use Rattle.un_conds.specs.Forms.{written};
     ghost use Rattle.un_conds.specs.Code.{written_code};
@@ -109,18 +110,20 @@ impl Model for RawCondition {
 
     ghost coded = { written_code };
 
-    ghost view = { λ c. written c.raw };
+    ghost view = { λ c. written (box_value c.raw) };
 }
 
 impl RawCondition {
-    ghost use Rattle.std.specs.Prelude.{◌≡◌};
+    ghost use Rattle.std.specs.Prelude.{◌≡◌, IfOk};
     ghost use Rattle.un_conds.specs.Forms.{written};
 
-    /// This condition. It takes no memory.
-    pub fn new(raw: RawCond) -> RawCondition
-        ensures { result ≡ written raw }
+    /// This condition.
+    pub fn new(alloc: Global, raw: RawCond) -> Result<RawCondition, AllocError>
+        ensures { IfOk result (λ condition. condition ≡ written raw) }
     {
-        RawCondition { raw }
+        Ok(RawCondition {
+            raw: Box::new(alloc, raw)?,
+        })
     }
 
     /// The condition.

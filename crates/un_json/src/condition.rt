@@ -24,7 +24,7 @@ impl Form for Condition {
 
     fn read(alloc: Global, value: &Value) -> Result<Option<RawCondition>, AllocError> {
         match read_condition(alloc, value)? {
-            Some(raw) => Ok(Some(RawCondition::new(raw))),
+            Some(raw) => Ok(Some(RawCondition::new(alloc, raw)?)),
             None => Ok(None),
         }
     }
