@@ -11,6 +11,7 @@ use Rattle.un_grid.proofs.grid.Grid.TheSendSync.{the_send as grid_send, the_sync
 use Rattle.un_tiers.specs.contracts.tiers.Tiers.{the_row as tiers_row}
 use Rattle.un_tiers.specs.contracts.setup.Setup.{the_row as setup_row}
 use Rattle.un_facts.specs.contracts.frame.Frame.{the_row as frame_row}
+use Rattle.un_facts.specs.contracts.facts.Parts.{the_row as parts_row}
 use Rattle.un_facts.specs.contracts.facts.Facts.{the_row}
 
 tiers_send : IsSend tiers_row
@@ -31,8 +32,14 @@ frame_send = search (setup_send, setup_sync, schema_send, crosses, sendable) dep
 frame_sync : IsSync frame_row
 frame_sync = search (setup_send, setup_sync, schema_sync, crosses, sendable) depth 60 fits 20000
 
+parts_send : IsSend parts_row
+parts_send = search (frame_send, frame_sync, store_send, assocs_send, grid_send, crosses, sendable) depth 60 fits 20000
+
+parts_sync : IsSync parts_row
+parts_sync = search (frame_send, frame_sync, store_sync, assocs_sync, grid_sync, crosses, sendable) depth 60 fits 20000
+
 pub facts_send : IsSend the_row
-facts_send = search (frame_send, frame_sync, store_send, assocs_send, grid_send, crosses, sendable) depth 60 fits 20000
+facts_send = search (parts_send, parts_sync, crosses, sendable) depth 60 fits 20000
 
 pub facts_sync : IsSync the_row
-facts_sync = search (frame_send, frame_sync, store_sync, assocs_sync, grid_sync, crosses, sendable) depth 60 fits 20000
+facts_sync = search (parts_send, parts_sync, crosses, sendable) depth 60 fits 20000

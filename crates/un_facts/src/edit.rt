@@ -9,7 +9,7 @@ ghost use Rattle.un_facts.specs.Known.{setting, next_at, edited, linked};
 ghost use Rattle.un_facts.specs.Standing.{IsKnown};
 ghost use Rattle.un_facts.specs.Refusals.{is_row_edit, is_of_features, refusal_of};
 
-use crate::facts::Facts;
+use crate::facts::{Facts, Parts};
 use crate::ids::NextIds;
 use crate::ports::with_ports;
 use crate::rectangles::row_of;
@@ -64,39 +64,49 @@ impl Facts {
         ensures bad { IfErr result (λ refusal. refusal ≢ Memory
             → refusal_of self.now edit.now ≡ Some refusal) }
     {
-        let Setup { schema, .. } = self.frame.setup();
+        let parts = self.parts();
+        let Setup { schema, .. } = parts.frame.setup();
         // For the proof alone.
         let _rules = schema.rules();
-        let rows = self.rows.edit(alloc, edit, schema, ids.feature, moment)?;
+        let rows = parts.rows.edit(alloc, edit, schema, ids.feature, moment)?;
         self.check_standing(edit)?;
         let id = row_of(edit, ids.feature);
-        let before = self.rows.row(id);
+        let before = parts.rows.row(id);
         let after = rows.row(id);
         let dirtied = self.rectangles(alloc, edit, before, after)?;
-        let grid = with_ports(&self.grid, alloc, edit, before, after)?;
-        let facts = Facts {
-            frame: self.frame.clone()?,
-            rows,
-            assocs: self.assocs.share()?,
-            grid,
-        };
+        let grid = with_ports(&parts.grid, alloc, edit, before, after)?;
+        let assocs = parts.assocs.share()?;
+        let frame = parts.frame.clone()?;
+        let facts = Facts::of(
+            alloc,
+            Parts {
+                frame,
+                rows,
+                assocs,
+                grid,
+            },
+        )?;
         Ok(Made { facts, dirtied })
     }
 
     // The same features but for the associations and controllers.
-    fn with_assocs(&self, assocs: Assocs) -> Result<Facts, AllocError>
+    fn with_assocs(&self, alloc: Global, assocs: Assocs) -> Result<Facts, AllocError>
         requires { IsKnown (linked self.now assocs) }
         ensures { IfOk result (λ facts. facts ≡ linked self.now assocs) }
     {
-        let frame = self.frame.clone()?;
-        let rows = self.rows.share()?;
-        let grid = self.grid.share()?;
-        Ok(Facts {
-            frame,
-            rows,
-            assocs,
-            grid,
-        })
+        let parts = self.parts();
+        let frame = parts.frame.clone()?;
+        let rows = parts.rows.share()?;
+        let grid = parts.grid.share()?;
+        Facts::of(
+            alloc,
+            Parts {
+                frame,
+                rows,
+                assocs,
+                grid,
+            },
+        )
     }
 
     /// The features once an edit of an association or of a controller is made.
@@ -117,15 +127,16 @@ impl Facts {
         ensures bad { IfErr result (λ refusal. refusal ≢ Memory
             → refusal_of self.now edit.now ≡ Some refusal) }
     {
-        let Setup { schema, tiers } = self.frame.setup();
+        let parts = self.parts();
+        let Setup { schema, tiers } = parts.frame.setup();
         // For the proof alone.
         let _rules = schema.rules();
         links_alone();
-        let assocs = self
+        let assocs = parts
             .assocs
-            .edit(alloc, edit, &self.rows, schema, tiers, ids.association)?;
+            .edit(alloc, edit, &parts.rows, schema, tiers, ids.association)?;
         let dirtied = self.rectangles(alloc, edit, None, None)?;
-        let facts = self.with_assocs(assocs)?;
+        let facts = self.with_assocs(alloc, assocs)?;
         Ok(Made { facts, dirtied })
     }
 

@@ -4,7 +4,9 @@ ghost use Rattle.std.specs.Option.{option_copied};
 ghost use Rattle.un_defs.specs.Features.{row as row_with, associations_of};
 ghost use Rattle.un_defs.specs.Ports.{ports};
 ghost use Rattle.un_defs.specs.Star.{controller_at};
-ghost use Rattle.un_facts.specs.Known.{opening, settled_at, in_force};
+ghost use Rattle.std.specs.Arc.{arc_value};
+ghost use Rattle.un_grid.specs.Grids.{IsGridOf};
+ghost use Rattle.un_facts.specs.Known.{features_of, known_of, opening, settled_at, in_force};
 ghost use Rattle.un_facts.specs.Places.{ArePlaces};
 ghost use Rattle.un_facts.specs.Standing.{IsKnown};
 
@@ -25,6 +27,12 @@ use un_tiers::{Setup, Tiers};
 /// an edit gives new features, which share with these what stays.
 #[derive(Drop)]
 pub struct Facts {
+    parts: Arc<Parts>,
+}
+
+/// What features are made of, with the ports of all rows in the grid.
+#[derive(Drop)]
+pub(crate) struct Parts {
     pub(crate) frame: Arc<Frame>,
     pub(crate) rows: Store,
     pub(crate) assocs: Assocs,
@@ -43,34 +51,55 @@ impl Model for Facts {
 
     ghost coded = { Prim.hlevel (codes, setup_row.the_row.coded) };
 
-    ghost view = { λ f. known_of (arc_value f.frame) f.rows f.assocs };
+    ghost view = { λ f. known_of (arc_value (arc_value f.parts).frame) (arc_value f.parts).rows (arc_value f.parts).assocs };
 
-    ghost invariant = { λ f. IsKnown (known_of (arc_value f.frame) f.rows f.assocs)
-        × IsGridOf f.grid (features_of (arc_value f.frame).rules f.rows f.assocs) };
+    ghost invariant = { λ f. IsKnown (known_of (arc_value (arc_value f.parts).frame) (arc_value f.parts).rows (arc_value f.parts).assocs)
+        × IsGridOf (arc_value f.parts).grid (features_of (arc_value (arc_value f.parts).frame).rules (arc_value f.parts).rows (arc_value f.parts).assocs) };
 }
 
 impl Facts {
+    /// The features that these parts are.
+    pub(crate) fn of(alloc: Global, parts: Parts) -> Result<Facts, AllocError>
+        requires known { IsKnown (known_of (arc_value parts.frame) parts.rows parts.assocs) }
+        requires grid { IsGridOf parts.grid
+            (features_of (arc_value parts.frame).rules parts.rows parts.assocs) }
+        ensures { IfOk result (λ facts. facts ≡ known_of (arc_value parts.frame) parts.rows parts.assocs) }
+    {
+        Ok(Facts {
+            parts: Arc::new(alloc, parts)?,
+        })
+    }
+
+    /// What these features are made of.
+    pub(crate) fn parts(&self) -> &Parts
+        ensures value { known_of (arc_value result.now.frame) result.now.rows result.now.assocs ≡ self.now }
+        ensures known { IsKnown
+            (known_of (arc_value result.now.frame) result.now.rows result.now.assocs) }
+        ensures grid { IsGridOf result.now.grid
+            (features_of (arc_value result.now.frame).rules result.now.rows result.now.assocs) }
+    {
+        &self.parts
+    }
+
     /// No features yet, under a schema and tiers.
     pub fn open(alloc: Global, schema: Schema, tiers: Tiers) -> Result<Facts, AllocError>
         ensures { IfOk result (λ facts. facts ≡ opening (record { schema = schema; tiers = tiers })) }
     {
-        Ok(Facts {
+        let parts = Parts {
             frame: Arc::new(alloc, Frame::new(alloc, schema, tiers)?)?,
             rows: Store::new(alloc),
             assocs: Assocs::new(alloc),
             grid: Grid::new(alloc),
-        })
+        };
+        Facts::of(alloc, parts)
     }
 
-    /// Equal features, which share all pages.
+    /// The same features.
     pub fn share(&self) -> Result<Facts, AllocError>
         ensures { IfOk result (λ facts. facts ≡ self.now) }
     {
         Ok(Facts {
-            frame: self.frame.clone()?,
-            rows: self.rows.share()?,
-            assocs: self.assocs.share()?,
-            grid: self.grid.share()?,
+            parts: self.parts.clone()?,
         })
     }
 
@@ -79,14 +108,14 @@ impl Facts {
         ensures setup { result.now ≡ self.now.setup }
         ensures known { IsKnown self.now }
     {
-        self.frame.setup()
+        self.parts().frame.setup()
     }
 
     /// The row with this id, if there is one.
     pub fn row(&self, id: u64) -> Option<&Row>
         ensures { option_copied result ≡ row_with self.now.features id }
     {
-        self.rows.row(id)
+        self.parts().rows.row(id)
     }
 
     /// The schema with the rules in force.
@@ -94,21 +123,21 @@ impl Facts {
         ensures schema { result.now ≡ in_force self.now }
         ensures known { IsKnown self.now }
     {
-        self.frame.schema()
+        self.parts().frame.schema()
     }
 
     /// The ports that stand at a point, rising.
     pub fn ports_at(&self, p: Point) -> &[Port]
         ensures { result.now ≡ ports self.now.features p }
     {
-        self.grid.at(p)
+        self.parts().grid.at(p)
     }
 
     /// The associations of which the row is an end, by rising id.
     pub fn assocs_of(&self, alloc: Global, id: u64) -> Result<Vec<Assoc>, AllocError>
         ensures { IfOk result (λ found. found.items ≡ associations_of self.now.features id) }
     {
-        let found = self.assocs.of(alloc, id)?;
+        let found = self.parts().assocs.of(alloc, id)?;
         Ok(found)
     }
 
@@ -116,7 +145,7 @@ impl Facts {
     pub fn controller_at(&self, port: Port) -> Option<&Controller>
         ensures { option_copied result ≡ controller_at self.now.features port }
     {
-        self.assocs.controller_at(port)
+        self.parts().assocs.controller_at(port)
     }
 
     /// The features as stars are built of them.
@@ -124,7 +153,7 @@ impl Facts {
         ensures { result.facts.now ≡ self.now }
     {
         // For the proof alone.
-        let _frame = &self.frame;
+        let _parts = self.parts();
         Live { facts: self }
     }
 
@@ -132,14 +161,14 @@ impl Facts {
     pub fn len(&self) -> u64
         ensures { result ≡ length self.now.features.rows }
     {
-        self.rows.len()
+        self.parts().rows.len()
     }
 
     /// The points at which something stands and that the rectangle covers, by x, y and z.
     pub fn points(&self, alloc: Global, extent: Rect) -> Result<Vec<Point>, AllocError>
         ensures { IfOk result (λ points. ArePlaces self.now.features extent points.items) }
     {
-        let points = self.grid.points(alloc, extent)?;
+        let points = self.parts().grid.points(alloc, extent)?;
         Ok(points)
     }
 
@@ -147,12 +176,15 @@ impl Facts {
     pub fn settle(&self, alloc: Global, ids: &[u64], moment: u64) -> Result<Facts, AllocError>
         ensures { IfOk result (λ facts. facts ≡ settled_at self.now ids.now moment) }
     {
-        Ok(Facts {
-            frame: self.frame.clone()?,
-            rows: self.rows.settle(alloc, ids, moment)?,
-            assocs: self.assocs.share()?,
-            grid: self.grid.share()?,
-        })
+        let parts = self.parts();
+        let settled = Parts {
+            frame: parts.frame.clone()?,
+            rows: parts.rows.settle(alloc, ids, moment)?,
+            assocs: parts.assocs.share()?,
+            grid: parts.grid.share()?,
+        };
+        let facts = Facts::of(alloc, settled)?;
+        Ok(facts)
     }
 }
 
@@ -172,7 +204,7 @@ impl Directory for Facts {
         tier: u8,
         subnet: &str,
     ) -> Result<Vec<Port>, AllocError> {
-        let ports = self.assocs.controllers_of(alloc, tier, subnet)?;
+        let ports = self.parts().assocs.controllers_of(alloc, tier, subnet)?;
         Ok(ports)
     }
 }

@@ -124,7 +124,7 @@ impl Facts {
     fn partners(&self, alloc: Global, id: u64, which: Which) -> Result<Vec<u64>, AllocError>
         ensures { IfOk result (λ ids. ids.items ≡ partners self.now.features (takes which) id) }
     {
-        let found = self.assocs.of(alloc, id)?;
+        let found = self.parts().assocs.of(alloc, id)?;
         let ids = other_ends(alloc, &found, id, which)?;
         let ids = rising(alloc, &ids)?;
         Ok(ids)
@@ -135,7 +135,7 @@ impl Facts {
         ensures { IfOk result (λ ids. ids.items ≡ ends_of self.now.features assoc) }
     {
         let mut ids = Vec::new(alloc);
-        if let Some(assoc) = self.assocs.get(assoc) {
+        if let Some(assoc) = self.parts().assocs.get(assoc) {
             ids.push(assoc.from.feature)?;
             ids.push(assoc.to.feature)?;
         }
@@ -171,7 +171,7 @@ impl Facts {
             ≡ rects.old.items ++ flat_map (envelope_of self.now.features) ids.now) }
     {
         for id in ids {
-            add(rects, envelope_of(self.rows.row(*id)))?;
+            add(rects, envelope_of(self.parts().rows.row(*id)))?;
         }
         Ok(())
     }

@@ -18,7 +18,7 @@ ghost use Rattle.un_facts.specs.Ruling.{rule_refusal, refusal_by, is_joint_of, i
 
 use crate::edit::Made;
 use crate::envelope::envelope;
-use crate::facts::Facts;
+use crate::facts::{Facts, Parts};
 use crate::frame::Frame;
 use crate::rectangles::add;
 use std::alloc::{AllocError, Global};
@@ -79,7 +79,7 @@ impl Facts {
         ensures { result ≡ has_joint_of self.now.features kind p }
     {
         // For the proof alone.
-        let _grid = &self.grid;
+        let _parts = self.parts();
         self.is_joint_among(kind, self.ports_at(p))
     }
 
@@ -111,7 +111,7 @@ impl Facts {
         ensures points { IfOk result (λ points. points.items ≡ joint_points self.now.features junction line) }
         ensures placed { IfOk result (λ points. All IsPlace points.items) }
     {
-        let vertices = self.rows.points_of_lines(alloc, line)?;
+        let vertices = self.parts().rows.points_of_lines(alloc, line)?;
         let points = self.with_joints(alloc, &vertices, junction)?;
         Ok(points)
     }
@@ -207,7 +207,7 @@ impl Facts {
             (λ a. is_sort sort a.sort && is_of_kinds self.now.features sort first second a) self.now.features.associations)) }
         ensures placed { IfOk result (λ points. All IsPlace points.items) }
     {
-        let found = self.assocs.of_sort(alloc, sort)?;
+        let found = self.parts().assocs.of_sort(alloc, sort)?;
         let points = self.points_of_ends(alloc, &found, sort, first, second)?;
         Ok(points)
     }
@@ -249,12 +249,14 @@ impl Facts {
         requires { frame.setup ≡ self.now.setup }
         ensures { IfOk result (λ facts. facts ≡ with_rules self.now frame.rules) }
     {
-        Ok(Facts {
+        let parts = self.parts();
+        let ruled = Parts {
             frame: Arc::new(alloc, frame)?,
-            rows: self.rows.share()?,
-            assocs: self.assocs.share()?,
-            grid: self.grid.share()?,
-        })
+            rows: parts.rows.share()?,
+            assocs: parts.assocs.share()?,
+            grid: parts.grid.share()?,
+        };
+        Facts::of(alloc, ruled)
     }
 
     /// The features once a rule is in force, with the rectangle that covers the points which it may change, if there are any.
@@ -271,7 +273,7 @@ impl Facts {
         ensures bad { IfErr result (λ refusal. refusal ≢ Memory
             → rule_refusal (in_force self.now) rule.now ≡ Some refusal) }
     {
-        let frame = with_rule(&self.frame, alloc, rule)?;
+        let frame = with_rule(&self.parts().frame, alloc, rule)?;
         let dirtied = self.rule_rectangles(alloc, rule)?;
         let facts = self.with_frame(alloc, frame)?;
         Ok(Made { facts, dirtied })

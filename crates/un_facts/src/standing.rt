@@ -11,7 +11,7 @@ impl Facts {
         ensures good { OnOk result (has_associations self.now.features id ≡ None) }
         ensures bad { IfErr result (λ refusal. has_associations self.now.features id ≡ Some refusal) }
     {
-        match self.assocs.first_of(id) {
+        match self.parts().assocs.first_of(id) {
             Some(assoc) => Err(Refusal::HasAssociations { least: assoc.id }),
             None => Ok(()),
         }
@@ -22,7 +22,7 @@ impl Facts {
         ensures good { OnOk result (has_controllers self.now.features id ≡ None) }
         ensures bad { IfErr result (λ refusal. has_controllers self.now.features id ≡ Some refusal) }
     {
-        if self.assocs.has_controller(id) {
+        if self.parts().assocs.has_controller(id) {
             Err(Refusal::HasControllers)
         } else {
             Ok(())

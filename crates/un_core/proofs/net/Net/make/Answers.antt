@@ -99,3 +99,6 @@ returns-clause-good c =
 
 pub returns-clause-may : goal.returns-clause-may
 returns-clause-may c = subst (λ (s : State). MayBeMade (setting s) (next_with s c.args.moment) s.features c.args.edit.now) c.self.view_is c.in_ok-facts.ensures.may
+
+pub returns-clause-dirtied : goal.returns-clause-dirtied
+returns-clause-dirtied c = c.in_ok-facts.ensures.dirtied ∙ ap (λ (s : State). dirtied s.features c.args.edit.now) c.self.view_is

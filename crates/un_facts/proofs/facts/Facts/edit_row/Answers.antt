@@ -13,84 +13,113 @@ use Rattle.un_tiers.specs.declared.setup.Setup.{Setup}
 use Rattle.un_facts.specs.Frames.{Framed}
 use Rattle.un_facts.specs.Known.{Known, known_of, features_of, setting, next_at, edited}
 use Rattle.un_facts.specs.Standing.{IsKnown}
-use Rattle.un_facts.specs.Refusals.{standing_refusal}
+use Rattle.un_facts.specs.Refusals.{refusal_of, standing_refusal}
 use Rattle.un_facts.specs.Rectangles.{own_rectangles, other_rectangles}
 use Rattle.un_facts.proofs.Edited.{features_are, all_rectangles_are, grid_after}
 use Rattle.un_facts.proofs.Makeable.{made, row_word, row_good, edited_known}
 use Rattle.un_facts.proofs.facts.Facts.edit_row.Goals as goal
 
-pub invariant_of-facts-2 : goal.invariant_of-facts-2
-invariant_of-facts-2 c =
-    let frame = arc_value c.self.inside.frame in
+pub of-requires-clause-known : goal.of-requires-clause-known
+of-requires-clause-known c =
+    let frame = arc_value c.parts-parts.result.now.frame in
     let S = frame.setup in
     let setup_is = c.setup.ensures ∙ ap (λ (f : Framed). f.setup) c.deref.ensures in
     let e = c.args.edit.now in
     let ids = c.args.ids in
-    let K : Known = known_of frame c.self.inside.rows c.self.inside.assocs in
+    let K : Known = known_of frame c.parts-parts.result.now.rows c.parts-parts.result.now.assocs in
     let T = setting S in
     let N = next_at ids c.args.moment in
-    let new : AreNew N K.features = subst (λ (L : Known). AreNew N L.features) (sym c.self.view_is) c.requires.new in
-    let cause : row_refusal S.schema c.self.inside.rows e ≡ None =
-    subst (λ (C : Setup). row_refusal C.schema c.self.inside.rows e ≡ None) setup_is c.in_ok-rows.ensures.good in
-    let stands : standing_refusal K.features e ≡ None = subst (λ (L : Known). standing_refusal L.features e ≡ None) (sym c.self.view_is) c.in_ok-check_standing.ensures.good in
+    let new : AreNew N K.features = subst (λ (L : Known). AreNew N L.features) (sym c.parts-parts.ensures.value) c.requires.new in
+    let cause : row_refusal S.schema c.parts-parts.result.now.rows e ≡ None =
+    subst (λ (C : Setup). row_refusal C.schema c.parts-parts.result.now.rows e ≡ None) setup_is c.in_ok-rows.ensures.good in
+    let stands : standing_refusal K.features e ≡ None = subst (λ (L : Known). standing_refusal L.features e ≡ None) (sym c.parts-parts.ensures.value) c.in_ok-check_standing.ensures.good in
     let catalog = subst (λ (C : Setup). IsCatalog C.schema) setup_is c.rules-rules.ensures.catalog in
-    let may = made K ids c.args.moment catalog c.self.invariant.0.sound e (row_word e c.requires.word) (row_good K e c.requires.word cause stands) in
-    let are : c.in_ok-rows.rows ≡ rows_after S.schema ids.feature c.args.moment c.self.inside.rows e =
-    subst (λ (C : Setup). c.in_ok-rows.rows ≡ rows_after C.schema ids.feature c.args.moment c.self.inside.rows e) setup_is c.in_ok-rows.ensures.rows in
+    let may = made K ids c.args.moment catalog c.parts-parts.ensures.known.sound e (row_word e c.requires.word) (row_good K e c.requires.word cause stands) in
+    let are : c.in_ok-rows.rows ≡ rows_after S.schema ids.feature c.args.moment c.parts-parts.result.now.rows e =
+    subst (λ (C : Setup). c.in_ok-rows.rows ≡ rows_after C.schema ids.feature c.args.moment c.parts-parts.result.now.rows e) setup_is c.in_ok-rows.ensures.rows in
+    let left = features_are T N K.features e c.requires.word c.in_ok-rows.rows are in
+    subst IsKnown
+    (ap (λ F. record { setup = S; features = F }) (sym left)
+    ∙ (λ i. known_of (sym c.in_ok-frame.ensures.cases i) c.in_ok-rows.rows (sym c.in_ok-assocs.ensures i)))
+    (edited_known K ids c.args.moment e c.parts-parts.ensures.known new may)
+
+pub of-requires-clause-grid : goal.of-requires-clause-grid
+of-requires-clause-grid c =
+    let frame = arc_value c.parts-parts.result.now.frame in
+    let S = frame.setup in
+    let setup_is = c.setup.ensures ∙ ap (λ (f : Framed). f.setup) c.deref.ensures in
+    let e = c.args.edit.now in
+    let ids = c.args.ids in
+    let K : Known = known_of frame c.parts-parts.result.now.rows c.parts-parts.result.now.assocs in
+    let T = setting S in
+    let N = next_at ids c.args.moment in
+    let new : AreNew N K.features = subst (λ (L : Known). AreNew N L.features) (sym c.parts-parts.ensures.value) c.requires.new in
+    let cause : row_refusal S.schema c.parts-parts.result.now.rows e ≡ None =
+    subst (λ (C : Setup). row_refusal C.schema c.parts-parts.result.now.rows e ≡ None) setup_is c.in_ok-rows.ensures.good in
+    let are : c.in_ok-rows.rows ≡ rows_after S.schema ids.feature c.args.moment c.parts-parts.result.now.rows e =
+    subst (λ (C : Setup). c.in_ok-rows.rows ≡ rows_after C.schema ids.feature c.args.moment c.parts-parts.result.now.rows e) setup_is c.in_ok-rows.ensures.rows in
     let left = features_are T N K.features e c.requires.word c.in_ok-rows.rows are in
     let grid = grid_after T N K.features new.feature e c.requires.word cause c.in_ok-rows.rows are c.row_of-id.result c.row_of-id.ensures _ _ c.row-before.ensures c.row-after.ensures
-    inserted removed replaced stayed c.self.invariant.0.sound.rows c.self.inside.grid c.in_ok-grid.grid c.self.invariant.1 c.in_ok-grid.ensures in (
-      subst IsKnown
-          (ap (λ F. record { setup = S; features = F }) (sym left)
-          ∙ (λ i. known_of (sym c.in_ok-clone.ensures.cases i) (sym c.rows.view_is i) (sym c.in_ok-share.ensures i)))
-          (edited_known K ids c.args.moment e c.self.invariant.0 new may),
-      subst (IsGridOf c.in_ok-grid.grid)
-          (sym left ∙ (λ i. features_of (sym c.in_ok-clone.ensures.cases i).rules (sym c.rows.view_is i) (sym c.in_ok-share.ensures i)))
-          grid,
-    )
+    inserted removed replaced stayed c.parts-parts.ensures.known.sound.rows c.parts-parts.result.now.grid c.in_ok-grid.grid c.parts-parts.ensures.grid c.in_ok-grid.ensures in
+    subst (IsGridOf c.in_ok-grid.grid)
+    (sym left ∙ (λ i. features_of (sym c.in_ok-frame.ensures.cases i).rules c.in_ok-rows.rows (sym c.in_ok-assocs.ensures i)))
+    grid
+
+pub returns-clause-good : goal.returns-clause-good
+returns-clause-good c =
+    let frame = arc_value c.parts-parts.result.now.frame in
+    let S = frame.setup in
+    let setup_is = c.setup.ensures ∙ ap (λ (f : Framed). f.setup) c.deref.ensures in
+    let e = c.args.edit.now in
+    let K : Known = known_of frame c.parts-parts.result.now.rows c.parts-parts.result.now.assocs in
+    let cause : row_refusal S.schema c.parts-parts.result.now.rows e ≡ None =
+    subst (λ (C : Setup). row_refusal C.schema c.parts-parts.result.now.rows e ≡ None) setup_is c.in_ok-rows.ensures.good in
+    let stands : standing_refusal K.features e ≡ None = subst (λ (L : Known). standing_refusal L.features e ≡ None) (sym c.parts-parts.ensures.value) c.in_ok-check_standing.ensures.good in
+    subst (λ (L : Known). refusal_of L e ≡ None) c.parts-parts.ensures.value (row_good K e c.requires.word cause stands)
 
 pub returns-clause-features : goal.returns-clause-features
 returns-clause-features c =
-    let frame = arc_value c.self.inside.frame in
+    let frame = arc_value c.parts-parts.result.now.frame in
     let S = frame.setup in
     let setup_is = c.setup.ensures ∙ ap (λ (f : Framed). f.setup) c.deref.ensures in
     let e = c.args.edit.now in
     let ids = c.args.ids in
-    let K : Known = known_of frame c.self.inside.rows c.self.inside.assocs in
-    let are : c.in_ok-rows.rows ≡ rows_after S.schema ids.feature c.args.moment c.self.inside.rows e =
-    subst (λ (C : Setup). c.in_ok-rows.rows ≡ rows_after C.schema ids.feature c.args.moment c.self.inside.rows e) setup_is c.in_ok-rows.ensures.rows in
-    (λ i. known_of (c.in_ok-clone.ensures.cases i) (c.rows.view_is i) (c.in_ok-share.ensures i))
+    let K : Known = known_of frame c.parts-parts.result.now.rows c.parts-parts.result.now.assocs in
+    let are : c.in_ok-rows.rows ≡ rows_after S.schema ids.feature c.args.moment c.parts-parts.result.now.rows e =
+    subst (λ (C : Setup). c.in_ok-rows.rows ≡ rows_after C.schema ids.feature c.args.moment c.parts-parts.result.now.rows e) setup_is c.in_ok-rows.ensures.rows in
+    c.in_ok-facts.ensures
+    ∙ (λ i. known_of (c.in_ok-frame.ensures.cases i) c.in_ok-rows.rows (c.in_ok-assocs.ensures i))
     ∙ ap (λ F. record { setup = S; features = F }) (features_are (setting S) (next_at ids c.args.moment) K.features e c.requires.word c.in_ok-rows.rows are)
-    ∙ ap (λ L. edited L ids c.args.moment e) c.self.view_is
+    ∙ ap (λ L. edited L ids c.args.moment e) c.parts-parts.ensures.value
 
 pub returns-clause-dirtied : goal.returns-clause-dirtied
 returns-clause-dirtied c =
-    let frame = arc_value c.self.inside.frame in
+    let frame = arc_value c.parts-parts.result.now.frame in
     let S = frame.setup in
     let setup_is = c.setup.ensures ∙ ap (λ (f : Framed). f.setup) c.deref.ensures in
     let e = c.args.edit.now in
     let ids = c.args.ids in
-    let K : Known = known_of frame c.self.inside.rows c.self.inside.assocs in
+    let K : Known = known_of frame c.parts-parts.result.now.rows c.parts-parts.result.now.assocs in
     let N = next_at ids c.args.moment in
-    let new : AreNew N K.features = subst (λ (L : Known). AreNew N L.features) (sym c.self.view_is) c.requires.new in
-    let cause : row_refusal S.schema c.self.inside.rows e ≡ None =
-    subst (λ (C : Setup). row_refusal C.schema c.self.inside.rows e ≡ None) setup_is c.in_ok-rows.ensures.good in
-    let are : c.in_ok-rows.rows ≡ rows_after S.schema ids.feature c.args.moment c.self.inside.rows e =
-    subst (λ (C : Setup). c.in_ok-rows.rows ≡ rows_after C.schema ids.feature c.args.moment c.self.inside.rows e) setup_is c.in_ok-rows.ensures.rows in
+    let new : AreNew N K.features = subst (λ (L : Known). AreNew N L.features) (sym c.parts-parts.ensures.value) c.requires.new in
+    let cause : row_refusal S.schema c.parts-parts.result.now.rows e ≡ None =
+    subst (λ (C : Setup). row_refusal C.schema c.parts-parts.result.now.rows e ≡ None) setup_is c.in_ok-rows.ensures.good in
+    let are : c.in_ok-rows.rows ≡ rows_after S.schema ids.feature c.args.moment c.parts-parts.result.now.rows e =
+    subst (λ (C : Setup). c.in_ok-rows.rows ≡ rows_after C.schema ids.feature c.args.moment c.parts-parts.result.now.rows e) setup_is c.in_ok-rows.ensures.rows in
     c.in_ok-dirtied.ensures
-    ∙ subst (λ (L : Known). own_rectangles e (option_copied c.row-before.result) (option_copied c.row-after.result) ++ other_rectangles L.features e ≡ dirtied L.features e) c.self.view_is
+    ∙ subst (λ (L : Known). own_rectangles e (option_copied c.row-before.result) (option_copied c.row-after.result) ++ other_rectangles L.features e ≡ dirtied L.features e) c.parts-parts.ensures.value
     (all_rectangles_are (setting S) N K.features new.feature e c.requires.word cause c.in_ok-rows.rows are c.row_of-id.result c.row_of-id.ensures _ _ c.row-before.ensures c.row-after.ensures)
 
 pub returns-clause-may : goal.returns-clause-may
 returns-clause-may c =
-    let frame = arc_value c.self.inside.frame in
+    let frame = arc_value c.parts-parts.result.now.frame in
     let S = frame.setup in
     let setup_is = c.setup.ensures ∙ ap (λ (f : Framed). f.setup) c.deref.ensures in
     let e = c.args.edit.now in
-    let K : Known = known_of frame c.self.inside.rows c.self.inside.assocs in
-    let cause : row_refusal S.schema c.self.inside.rows e ≡ None =
-    subst (λ (C : Setup). row_refusal C.schema c.self.inside.rows e ≡ None) setup_is c.in_ok-rows.ensures.good in
-    let stands : standing_refusal K.features e ≡ None = subst (λ (L : Known). standing_refusal L.features e ≡ None) (sym c.self.view_is) c.in_ok-check_standing.ensures.good in
+    let K : Known = known_of frame c.parts-parts.result.now.rows c.parts-parts.result.now.assocs in
+    let cause : row_refusal S.schema c.parts-parts.result.now.rows e ≡ None =
+    subst (λ (C : Setup). row_refusal C.schema c.parts-parts.result.now.rows e ≡ None) setup_is c.in_ok-rows.ensures.good in
+    let stands : standing_refusal K.features e ≡ None = subst (λ (L : Known). standing_refusal L.features e ≡ None) (sym c.parts-parts.ensures.value) c.in_ok-check_standing.ensures.good in
     let catalog = subst (λ (C : Setup). IsCatalog C.schema) setup_is c.rules-rules.ensures.catalog in
-    subst (λ (L : Known). MayBeMade (setting L.setup) (next_at c.args.ids c.args.moment) L.features e) c.self.view_is
-    (made K c.args.ids c.args.moment catalog c.self.invariant.0.sound e (row_word e c.requires.word) (row_good K e c.requires.word cause stands))
+    subst (λ (L : Known). MayBeMade (setting L.setup) (next_at c.args.ids c.args.moment) L.features e) c.parts-parts.ensures.value
+    (made K c.args.ids c.args.moment catalog c.parts-parts.ensures.known.sound e (row_word e c.requires.word) (row_good K e c.requires.word cause stands))

@@ -9,4 +9,4 @@ pub returns : goal.returns
 returns c =
     let K = c.args.self.now in
     c.is_joint_among.ensures ∙ ap (list_any (λ q. is_joint_of K.features c.args.kind q.feature)) c.ports_at.ensures
-    ∙ joints_by_ports K.setup.schema K.features (subst IsKnown c.self.view_is c.self.invariant.0).sound c.args.kind c.args.p
+    ∙ joints_by_ports K.setup.schema K.features (subst IsKnown c.parts-parts.ensures.value c.parts-parts.ensures.known).sound c.args.kind c.args.p

@@ -11,7 +11,7 @@ returns-clause-points c =
     let F = c.args.self.now.features in
     c.in_ok-points.ensures
     ∙ ap (filter (has_joint_of F c.args.junction)) (c.deref.ensures.value ∙ c.in_ok-vertices.ensures.points
-    ∙ ap (λ (K : Known). line_points c.args.line K.features.rows) c.self.view_is)
+    ∙ ap (λ (K : Known). line_points c.args.line K.features.rows) c.parts.ensures.value)
     ∙ joint_points_are F c.args.junction c.args.line
 
 pub returns-clause-placed : goal.returns-clause-placed

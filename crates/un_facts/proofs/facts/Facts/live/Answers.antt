@@ -6,4 +6,4 @@ use Rattle.un_facts.proofs.facts.Facts.live.Goals as goal
 pub invariant_of-result : goal.invariant_of-result
 invariant_of-result c =
     let K = c.args.self.now in
-    record { sound = sound_under K.setup.schema K.features.rules K.features (subst IsKnown c.self.view_is c.self.invariant.0).sound }
+    record { sound = sound_under K.setup.schema K.features.rules K.features (subst IsKnown c.parts-parts.ensures.value c.parts-parts.ensures.known).sound }

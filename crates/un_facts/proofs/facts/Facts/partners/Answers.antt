@@ -12,5 +12,5 @@ returns c =
     c.in_ok-ids-2.ensures
     ∙ ap (rising nat_cmp) (c.deref-2.ensures.value ∙ c.in_ok-ids.ensures
     ∙ ap (flat_map (taken_end c.args.which c.args.id)) (c.deref.ensures.value ∙ c.in_ok-found.ensures) ∙ taken_ends c.args.which c.args.id _)
-    ∙ partners_are (features_of (arc_value c.self.inside.frame).rules c.self.inside.rows c.self.inside.assocs) c.self.invariant.0.sound.associations (takes c.args.which) c.args.id
-    ∙ ap (λ (K : Known). partners K.features (takes c.args.which) c.args.id) c.self.view_is
+    ∙ partners_are (features_of (arc_value c.parts.result.now.frame).rules c.parts.result.now.rows c.parts.result.now.assocs) c.parts.ensures.known.sound.associations (takes c.args.which) c.args.id
+    ∙ ap (λ (K : Known). partners K.features (takes c.args.which) c.args.id) c.parts.ensures.value

@@ -6,5 +6,5 @@ use Rattle.un_facts.proofs.facts.Facts.points.Goals as goal
 
 pub returns : goal.returns
 returns c =
-    subst (λ (K : Known). ArePlaces K.features c.args.extent c.in_ok-points.points.items) c.self.view_is
-    (subst (ArePlaces _ c.args.extent) (sym c.in_ok-points.ensures.points) (are_places c.self.inside.grid _ c.args.extent c.self.invariant.1))
+    subst (λ (K : Known). ArePlaces K.features c.args.extent c.in_ok-points.points.items) c.parts.ensures.value
+    (subst (ArePlaces _ c.args.extent) (sym c.in_ok-points.ensures.points) (are_places c.parts.result.now.grid _ c.args.extent c.parts.ensures.grid))

@@ -10,5 +10,5 @@ returns-clause-points c =
     let F = c.args.self.now.features in
     c.in_ok-points.ensures.points
     ∙ ap (flat_map (points_between F c.args.sort c.args.first c.args.second)) (c.deref.ensures.value ∙ c.in_ok-found.ensures
-    ∙ ap (λ (K : Known). filter (is_of_sort c.args.sort) K.features.associations) c.self.view_is)
+    ∙ ap (λ (K : Known). filter (is_of_sort c.args.sort) K.features.associations) c.parts.ensures.value)
     ∙ points_between_are F c.args.sort c.args.first c.args.second

@@ -7,20 +7,22 @@ use Rattle.un_facts.specs.Standing.{IsKnown}
 use Rattle.un_facts.proofs.Settled.{settled_known, settled_grid}
 use Rattle.un_facts.proofs.facts.Facts.settle.Goals as goal
 
-pub invariant_of-result : goal.invariant_of-result
-invariant_of-result c =
-    let frame = arc_value c.self.inside.frame in
-    let ids = c.args.ids.now in
-    let moment = c.args.moment in
-    let F = features_of frame.rules c.self.inside.rows c.self.inside.assocs in (
-      subst IsKnown
-          (λ i. known_of (sym c.in_ok-clone.ensures.cases i) (sym c.in_ok-settle.ensures i) (sym c.in_ok-share.ensures i))
-          (settled_known (known_of frame c.self.inside.rows c.self.inside.assocs) ids moment c.self.invariant.0),
-      λ p. ap (λ g. ports_in g p) c.in_ok-share-2.ensures.same ∙ settled_grid c.self.inside.grid F moment ids c.self.invariant.1 p
-          ∙ (λ i. ports (features_of (sym c.in_ok-clone.ensures.cases i).rules (sym c.in_ok-settle.ensures i) (sym c.in_ok-share.ensures i)) p),
-    )
+pub of-requires-clause-known : goal.of-requires-clause-known
+of-requires-clause-known c =
+    let P = c.parts-parts.result.now in
+    subst IsKnown
+    (λ i. known_of (sym c.in_ok-clone.ensures.cases i) (sym c.in_ok-settle.ensures i) (sym c.in_ok-share.ensures i))
+    (settled_known (known_of (arc_value P.frame) P.rows P.assocs) c.args.ids.now c.args.moment c.parts-parts.ensures.known)
+
+pub of-requires-clause-grid : goal.of-requires-clause-grid
+of-requires-clause-grid c =
+    let P = c.parts-parts.result.now in
+    let F = features_of (arc_value P.frame).rules P.rows P.assocs in
+    λ p. ap (λ g. ports_in g p) c.in_ok-share-2.ensures.same ∙ settled_grid P.grid F c.args.moment c.args.ids.now c.parts-parts.ensures.grid p
+    ∙ (λ i. ports (features_of (sym c.in_ok-clone.ensures.cases i).rules (sym c.in_ok-settle.ensures i) (sym c.in_ok-share.ensures i)) p)
 
 pub returns : goal.returns
 returns c =
-    (λ i. known_of (c.in_ok-clone.ensures.cases i) (c.in_ok-settle.ensures i) (c.in_ok-share.ensures i))
-    ∙ ap (λ K. settled_at K c.args.ids.now c.args.moment) c.self.view_is
+    c.in_ok-facts.ensures
+    ∙ (λ i. known_of (c.in_ok-clone.ensures.cases i) (c.in_ok-settle.ensures i) (c.in_ok-share.ensures i))
+    ∙ ap (λ K. settled_at K c.args.ids.now c.args.moment) c.parts-parts.ensures.value
