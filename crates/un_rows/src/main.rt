@@ -9,23 +9,15 @@
 //! the bytes came and how the run ended, and what was written follows. Where the table can't be read, its first line that is
 //! none of a table is told, and no row runs. The status is 0 if all is as due, and else 1.
 //!
-//! What no text shows is tested beside the table: sources, sinks and doors that fail, words that are no command, links that wait
-//! for one another, and a network at a desk of sessions.
+//! What no text shows is tested beside the table: sources, sinks and doors that fail, words that are no command, and links that
+//! wait for one another.
 #![tactic(auto)]
 
-#[cfg(test)]
-mod desk;
 mod escapes;
-#[cfg(test)]
-mod features;
 mod links;
-#[cfg(test)]
-mod prepared;
 mod runs;
 mod scripts;
 mod table;
-#[cfg(test)]
-mod views;
 
 use runs::{Run, first_other};
 use std::io;

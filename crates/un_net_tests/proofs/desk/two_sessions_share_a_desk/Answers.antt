@@ -1,7 +1,7 @@
 -- A network may go to another thread, and be read by several.
 use denote.Param.Send.{sendable}
 use Rattle.un_core.proofs.Crossing.{net_send, net_sync}
-use Rattle.un_rows.proofs.desk.two_sessions_share_a_desk.Goals as goal
+use Rattle.un_net_tests.proofs.desk.two_sessions_share_a_desk.Goals as goal
 
 pub share_a_desk-requires-send-M : goal.share_a_desk-requires-send-M
 share_a_desk-requires-send-M g c κs = search (net_send, sendable) depth 60

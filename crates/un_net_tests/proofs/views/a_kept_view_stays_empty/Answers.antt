@@ -1,7 +1,7 @@
 -- A network may go to another thread, and be read by several.
 use denote.Param.Send.{sendable}
 use Rattle.un_core.proofs.Crossing.{net_send, net_sync}
-use Rattle.un_rows.proofs.views.a_kept_view_stays_empty.Goals as goal
+use Rattle.un_net_tests.proofs.views.a_kept_view_stays_empty.Goals as goal
 
 pub keep_a_view-requires-send-M : goal.keep_a_view-requires-send-M
 keep_a_view-requires-send-M g c κs = search (net_send, sendable) depth 60

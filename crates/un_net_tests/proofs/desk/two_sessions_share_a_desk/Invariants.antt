@@ -1,5 +1,5 @@
 use Rattle.std.proofs.Common.{[], ◌∷◌}
-use Rattle.un_rows.proofs.desk.two_sessions_share_a_desk.Given as goal
+use Rattle.un_net_tests.proofs.desk.two_sessions_share_a_desk.Given as goal
 
 -- the log that was just made
 abbrev pub ghosts-share_a_desk-J-LogName : goal.ghosts-share_a_desk-J-LogName

@@ -1,5 +1,5 @@
 use Rattle.std.proofs.Common.{[], ◌∷◌}
-use Rattle.un_rows.proofs.views.a_kept_view_stays_empty.Given as goal
+use Rattle.un_net_tests.proofs.views.a_kept_view_stays_empty.Given as goal
 
 -- the log that was just made
 abbrev pub ghosts-keep_a_view-J-LogName : goal.ghosts-keep_a_view-J-LogName
