@@ -34,12 +34,19 @@ fn show_insert(rt: &HostRuntime, edit: &Edit) -> io::Result<()> {
     }
 }
 
+fn show_request(rt: &HostRuntime, request: &Request) -> io::Result<()> {
+    match request {
+        Request::Changes(query) => println!(rt; "{query:?}"),
+        Request::Past(past) => show_past(rt, past),
+        Request::Command(Command::Edit(edit)) => show_insert(rt, edit),
+        _ => rt.println("no value"),
+    }
+}
+
 /// Writes the values of a query for changes, of a query at a past version, or of an insert.
 pub(super) fn show(rt: &HostRuntime, text: &[u8]) -> io::Result<()> {
-    match &read_request(rt.alloc(), text) {
-        Ok(Request::Changes(query)) => println!(rt; "{query:?}"),
-        Ok(Request::Past(past)) => show_past(rt, past),
-        Ok(Request::Command(Command::Edit(edit))) => show_insert(rt, edit),
-        _ => rt.println("no value"),
+    match read_request(rt.alloc(), text) {
+        Ok(request) => show_request(rt, &request),
+        Err(_) => rt.println("no value"),
     }
 }
