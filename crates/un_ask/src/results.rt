@@ -1,4 +1,9 @@
 //! What traces, paths and diagrams tell.
+ghost use Rattle.std.specs.Prelude.{◌≡◌, IfOk};
+
+use smallvec::SmallVec;
+use std::alloc::{AllocError, Global};
+use std::marker::Model;
 use un_defs::{Controller, Port};
 use un_schema::Items;
 
@@ -16,8 +21,44 @@ pub struct Segment {
     pub index: u8,
 }
 
-/// A list of numbers of ports of one feature.
-pub type Numbers = Items<u8>;
+/// A list of numbers of ports of one feature. Up to 16 of them lie in the value itself, which is enough for most features, so that a result
+/// takes no memory for each of its features. Contracts see its elements.
+#[derive(Drop)]
+pub struct Numbers {
+    numbers: SmallVec<u8, 16>,
+}
+
+impl Model for Numbers {
+    ghost use Rattle.std.specs.Prelude.{List, ℕ};
+
+    ghost Value = { List ℕ };
+
+    ghost view = { λ n. n.numbers.items };
+}
+
+impl Numbers {
+    /// The list of these numbers, in this order. It takes no memory.
+    pub fn new(numbers: SmallVec<u8, 16>) -> Numbers
+        ensures { result ≡ numbers.items }
+    {
+        Numbers { numbers }
+    }
+
+    /// Its elements, in order.
+    pub fn as_slice(&self) -> &[u8]
+        ensures { result.now ≡ self.now }
+    {
+        self.numbers.as_slice()
+    }
+
+    /// An equal list of its own.
+    pub fn copy(&self, alloc: Global) -> Result<Numbers, AllocError>
+        ensures { IfOk result (λ copy. copy ≡ self.now) }
+    {
+        let numbers = SmallVec::from_slice(alloc, self.numbers.as_slice())?;
+        Ok(Numbers { numbers })
+    }
+}
 
 /// A list of features with their reached ports.
 pub type Parts = Items<Part>;

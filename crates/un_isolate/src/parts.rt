@@ -6,6 +6,7 @@ ghost use Rattle.std.specs.List.Sorted.{IsSorted, IsStrictlySortedBy};
 ghost use Rattle.un_defs.specs.Orders.{rising, node_cmp};
 ghost use Rattle.un_isolate.specs.Parts.{parts};
 
+use smallvec::SmallVec;
 use std::alloc::{AllocError, Global};
 use un_ask::{Numbers, Part};
 use un_defs::Node;
@@ -25,7 +26,7 @@ fn numbers_of(alloc: Global, run: &[Node]) -> Result<Numbers, AllocError>
     requires { IsSorted nat_cmp (map (λ n. n.port.number) run.now) }
     ensures { IfOk result (λ numbers. numbers ≡ rising nat_cmp (map (λ n. n.port.number) run.now)) }
 {
-    let mut numbers: Vec<u8> = run.iter().map(|node| node.port.number).collect(alloc)?;
+    let mut numbers: SmallVec<u8, 16> = run.iter().map(|node| node.port.number).collect(alloc)?;
     numbers.dedup();
     Ok(Numbers::new(numbers))
 }

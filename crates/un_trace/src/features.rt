@@ -11,6 +11,7 @@ ghost use Rattle.un_defs.specs.Result.{feature_ids};
 ghost use Rattle.un_trace.specs.Seen.{nodes_of, spots_of, first_spot};
 ghost use Rattle.un_trace.specs.TraceReply.{parts};
 
+use smallvec::SmallVec;
 use std::alloc::{AllocError, Global};
 use un_ask::{Numbers, Part};
 use un_defs::Spot;
@@ -55,7 +56,7 @@ fn numbers_of(alloc: Global, run: &[Seen]) -> Result<Numbers, AllocError>
     requires { IsSorted nat_cmp (map (λ s. s.node.port.number) run.now) }
     ensures { IfOk result (λ numbers. numbers ≡ rising nat_cmp (map (λ s. s.node.port.number) run.now)) }
 {
-    let mut numbers: Vec<u8> = run.iter().map(|one| one.node.port.number).collect(alloc)?;
+    let mut numbers: SmallVec<u8, 16> = run.iter().map(|one| one.node.port.number).collect(alloc)?;
     numbers.dedup();
     Ok(Numbers::new(numbers))
 }

@@ -3,7 +3,6 @@ use Rattle.std.specs.Ordering.{nat_cmp}
 use Rattle.std.specs.Cmp.{unsigned_ties}
 use Rattle.std.specs.List.{dedup}
 use Rattle.std.proofs.lemmas.Cmp.{nat_cmp_total}
-use Rattle.std.proofs.lemmas.List.Filters.{dedup_is}
 use Rattle.std.proofs.lemmas.List.Kept.{IsStrictlySortedBy-dedup, Contains-dedup_nat, Contains-from_dedup}
 use Rattle.un_defs.specs.Orders.{rising}
 use Rattle.un_defs.proofs.Members.{contains_from_among, among_from_contains}
@@ -23,5 +22,5 @@ dedup_rising xs sorted =
 pub returns : goal.returns
 returns c =
     let all : c.in_ok-numbers.numbers.items ≡ map number_of c.args.run.now = search rules in
-    let kept : c.dedup.new.self.items ≡ dedup eqb c.in_ok-numbers.numbers.items = dedup_is _ _ _ c.dedup.ensures.filtered in
+    let kept : c.dedup.new.self.items ≡ dedup eqb c.in_ok-numbers.numbers.items = c.dedup.ensures.items in
     c.new.ensures ∙ kept ∙ ap (dedup eqb) all ∙ dedup_rising (map number_of c.args.run.now) c.requires
