@@ -1,9 +1,8 @@
 -- What the commands do, by their status.
-use Rattle.std.specs.Prelude.{◌≡◌, ◌⊎◌, ℕ, List, [], ◌∷◌, Option, Contains}
-use Rattle.std.specs.Io.KnownBytes.{Appends}
-use Rattle.un_io.specs.Outside.{Rose, AppendsPrefix}
+use Rattle.std.specs.Prelude.{ℕ, List, Option}
 use Rattle.un_words.specs.Words.{IsCommand}
 use Rattle.un_words.specs.declared.command.ProgramCommand.TheVariants.{Script, Follow, Make}
+use Rattle.un_status.specs.Statuses.{WritesLine}
 use Rattle.un_script.specs.Statuses.{RunsBy}
 use Rattle.un_script.specs.Script.{script}
 use Rattle.un_script.specs.History.{by_history}
@@ -33,12 +32,5 @@ abbrev pub RunsFollow : (left left' taken taken' : Option (List ℕ)) (reads rea
 RunsFollow = RunsBy follow
 
 -- What the status of `make` says of its line, of the bytes taken, and of the sink's count of faults.
-pub record RunsMake (line : List ℕ) (taken taken' : Option (List ℕ)) (writes writes' status : ℕ) : Type 0 where
-  pub statuses : Contains (0 ∷ 4 ∷ 7 ∷ []) status
-  -- 0: the line is written
-  pub done : status ≡ 0 → Appends taken taken' line
-  -- 4: the sink failed; a prefix of the line is written, and some of it is not
-  pub sink_fault : status ≡ 4 → AppendsPrefix taken taken' line
-  pub sink_cause : status ≡ 4 → Rose writes writes'
-  -- unless the sink fails it is 0, or 7 for want of memory
-  pub complete : ¬ Rose writes writes' → (status ≡ 0) ⊎ (status ≡ 7)
+abbrev pub RunsMake : (line : List ℕ) (taken taken' : Option (List ℕ)) (writes writes' status : ℕ) → Type 0
+RunsMake = WritesLine

@@ -12,7 +12,8 @@ use crate::make::make_line;
 use crate::opening::run_status;
 use crate::script::Script;
 use std::alloc::Global;
-use un_io::{Sink, SinkFault, Source, Word, write_all};
+use un_io::{Sink, Source, Word};
+use un_status::write_line;
 use un_steps::Steps;
 use un_words::{ProgramCommand, read_words};
 
@@ -43,10 +44,7 @@ fn make<K: Sink>(alloc: Global, seed: u32, count: u32, sink: &mut K) -> u8
     ensures no_memory { result ≡ 7 → sink.new ≡ sink.old }
 {
     match make_line(alloc, seed, count) {
-        Ok(line) => match write_all(sink, &line) {
-            Ok(()) => 0,
-            Err(SinkFault) => 4,
-        },
+        Ok(line) => write_line(sink, &line),
         Err(_) => 7,
     }
 }

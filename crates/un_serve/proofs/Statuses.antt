@@ -1,15 +1,8 @@
 -- Which statuses come, and from which cause.
-use Rattle.std.proofs.Common.{◌≡◌, ℕ, zero, suc, arith, [], ◌∷◌, Option, None, Some, Contains, lit<, refl}
-use Rattle.un_gate.specs.declared.DoorEnd.{DoorEnd}
-use Rattle.un_gate.specs.declared.DoorEnd.TheVariants.{Closed, Failed}
+use Rattle.std.proofs.Common.{◌≡◌, ℕ, zero, suc, arith, [], ◌∷◌, Contains, lit<, refl}
 use Rattle.un_serve.specs.declared.run.OpenFault.{OpenFault}
 use Rattle.un_serve.specs.declared.run.OpenFault.TheVariants.{Source, NoSchema, Memory, Limit}
-use Rattle.un_serve.specs.Running.{end_status, fault_status}
-
-pub end_statuses : (end : Option DoorEnd) → Contains (0 ∷ 5 ∷ 7 ∷ []) (end_status end)
-end_statuses (Some Closed) = (0, lit< tt, refl)
-end_statuses (Some Failed) = (1, lit< tt, refl)
-end_statuses None = (2, lit< tt, refl)
+use Rattle.un_serve.specs.Running.{fault_status}
 
 pub fault_statuses : (fault : OpenFault) → Contains (0 ∷ 2 ∷ 3 ∷ 5 ∷ 6 ∷ 7 ∷ 8 ∷ []) (fault_status fault)
 fault_statuses Source = (2, lit< tt, refl)

@@ -1,5 +1,5 @@
 -- What the server's words are, and what its first line has to be.
-use Rattle.std.specs.Prelude.{◌≡◌, ◌⊎◌, ℕ, Bool, true, false, List, Option, None, Some, Result, Ok, Err, ⊤}
+use Rattle.std.specs.Prelude.{◌≡◌, ◌⊎◌, ℕ, Bool, true, false, List, Option, Result, Ok, Err, ⊤}
 use Rattle.un_words.specs.Words.{IsCommand}
 use Rattle.un_words.specs.declared.command.ProgramCommand.TheVariants.{Serve}
 use Rattle.un_lines.specs.First.{IsFirst}
@@ -7,8 +7,6 @@ use Rattle.un_lines.specs.declared.first.FirstLine.{FirstLine}
 use Rattle.un_lines.specs.declared.first.FirstLine.TheVariants.{Line, TooLong, Missing}
 use Rattle.un_lines.specs.declared.first.FirstFault.{FirstFault}
 use Rattle.un_lines.specs.declared.first.FirstFault.TheVariants as first
-use Rattle.un_gate.specs.declared.DoorEnd.{DoorEnd}
-use Rattle.un_gate.specs.declared.DoorEnd.TheVariants.{Closed, Failed}
 use Rattle.un_serve.specs.declared.run.OpenFault.{OpenFault}
 use Rattle.un_serve.specs.declared.run.OpenFault.TheVariants.{Source, NoSchema, Memory, Limit}
 use Rattle.un_schema.specs.declared.place.Place.{Place}
@@ -58,9 +56,3 @@ fault_status Source = 3
 fault_status NoSchema = 6
 fault_status Memory = 7
 fault_status Limit = 8
-
--- the status after the door has ended
-abbrev pub end_status : Option DoorEnd → ℕ
-end_status (Some Closed) = 0
-end_status (Some Failed) = 5
-end_status None = 7

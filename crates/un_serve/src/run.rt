@@ -5,7 +5,7 @@ ghost use Rattle.un_lines.specs.Cut.{lines_of};
 ghost use Rattle.un_lines.specs.First.{first_kept, HasRead};
 ghost use Rattle.un_lines.specs.declared.first.FirstLine.TheVariants.{Missing};
 ghost use Rattle.un_gate.specs.Gates.{IsSince};
-ghost use Rattle.un_serve.specs.Running.{EndsWith, IsOpened, IsServe, Opens, end_status, fault_status, is_schema, open_fault};
+ghost use Rattle.un_serve.specs.Running.{EndsWith, IsOpened, IsServe, Opens, fault_status, is_schema, open_fault};
 
 use crate::workers::serve_door;
 use core::mem::replace_with;
@@ -15,7 +15,7 @@ use std::sync::Wait;
 use std::thread::Threads;
 use un_core::Net;
 use un_desk::desk::Desk;
-use un_gate::{DoorCount, DoorEnd};
+use un_gate::DoorCount;
 use un_io::{Door, Source, Word};
 use un_lines::{FirstFault, FirstLine, read_first_line};
 use un_machine::Entry;
@@ -23,6 +23,7 @@ use un_publish::prefix::NewLog;
 use un_publish::published::BoardName;
 use un_publish::session::Session;
 use un_schema_json::{SchemaFault, read_schema};
+use un_status::door_status;
 use un_words::{ProgramCommand, read_words};
 
 /// Why no network was opened.
@@ -121,17 +122,6 @@ fn fault_status(fault: OpenFault) -> u8
     }
 }
 
-// The status after the door has ended. Without an end no worker had asked the door.
-fn end_status(end: Option<DoorEnd>) -> u8
-    ensures { result ≡ end_status end }
-{
-    match end {
-        Some(DoorEnd::Closed) => 0,
-        Some(DoorEnd::Failed) => 5,
-        None => 7,
-    }
-}
-
 // Opens a desk over the network with a session for each worker, serves the links of the door, and closes the desk.
 fn serve_network<
     R: Threads + Wait + Sync,
@@ -161,7 +151,7 @@ where
         { serve_door::<R, J, D, N>(rt, alloc, &desk, sessions, door) },
     );
     desk.close(rt);
-    end_status(end)
+    door_status(end)
 }
 
 /// Serves the links that arrive at the door: reads the schema's line from its source, opens a network under it, and runs

@@ -1,7 +1,6 @@
 use denote.Param.Send.{sendable}
-use Rattle.std.proofs.Common.{[], ◌∷◌, Contains, lit<, refl, sym, subst}
+use Rattle.std.proofs.Common.{lit<, refl}
 use Rattle.un_core.proofs.Crossing.{net_send, net_sync}
-use Rattle.un_serve.proofs.Statuses.{end_statuses}
 use Rattle.un_serve.proofs.run.serve_network.Goals as goal
 
 pub open-requires-send-M : goal.open-requires-send-M
@@ -18,6 +17,3 @@ close-requires-send-M g c κs within = search (net_send, sendable) depth 60
 
 pub close-requires-sync-M : goal.close-requires-sync-M
 close-requires-sync-M g c κs within = search (net_sync, sendable) depth 60
-
-pub returns-clause-statuses : goal.returns-clause-statuses
-returns-clause-statuses g c = subst (λ status. Contains (0 ∷ 5 ∷ 7 ∷ []) status) (sym c.end_status.ensures) (end_statuses c.replace_with-end.result)
