@@ -5,6 +5,7 @@ pub mod Groups
 pub mod CommandTexts
 pub mod Commands
 pub mod Shows
+mod Samples
 mod FormedReplies
 pub mod ReadBack
 pub mod Utf8Replies

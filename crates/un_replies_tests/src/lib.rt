@@ -1,5 +1,0 @@
-//! Tests of the JSON of replies.
-#![tactic(auto)]
-
-#[cfg(test)]
-mod replies;
