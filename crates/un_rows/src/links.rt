@@ -2,20 +2,12 @@
 //! writes that fail.
 ghost use Rattle.std.specs.Prelude.{◌≡◌, ◌∷◌, []};
 
-#[cfg(test)]
-mod doors;
-#[cfg(test)]
-mod gated;
-#[cfg(test)]
+pub(crate) mod doors;
 mod given;
-#[cfg(test)]
-mod pipelined;
-#[cfg(test)]
-mod seen;
-#[cfg(test)]
+pub(crate) mod pipelined;
+pub(crate) mod seen;
 mod short_door;
-#[cfg(test)]
-mod sockets;
+pub(crate) mod sockets;
 
 use std::alloc::{AllocError, Global};
 use std::marker::Brand;

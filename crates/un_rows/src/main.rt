@@ -9,8 +9,8 @@
 //! the bytes came and how the run ended, and what was written follows. Where the table can't be read, its first line that is
 //! none of a table is told, and no row runs. The status is 0 if all is as due, and else 1.
 //!
-//! What no text shows is tested beside the table: sources, sinks and doors that fail, words that are no command, and links that
-//! wait for one another.
+//! After the rows come a few runs that no text can describe: sources, sinks and doors that fail, and links that wait for one
+//! another.
 #![tactic(auto)]
 
 mod escapes;
@@ -18,20 +18,33 @@ mod links;
 mod runs;
 mod scripts;
 mod table;
+mod unlisted;
 
 use runs::{Run, first_other};
 use std::io;
 use std::io::Write;
+use std::net::{Net, TcpListener, TcpStream};
 use std::process::ExitCode;
 use std::sync::Wait;
 use std::thread::Threads;
 use table::{Row, read_rows};
+use unlisted::show_unlisted;
 
 /// Whether all was as due.
 #[derive(Clone, Copy, PartialEq, Eq)]
 enum Verdict {
     AsDue,
     Other,
+}
+
+impl Verdict {
+    // Whether all was as due in both.
+    fn and(self, other: Verdict) -> Verdict {
+        match self {
+            Verdict::AsDue => other,
+            Verdict::Other => Verdict::Other,
+        }
+    }
 }
 
 // Tells how a run was that was not as due.
@@ -68,9 +81,7 @@ fn show_rows<R: Print + AllocGlobal + Threads + Wait + Sync>(
 ) -> io::Result<Verdict> {
     let mut verdict = Verdict::AsDue;
     for row in rows {
-        if show_row(rt, row)? == Verdict::Other {
-            verdict = Verdict::Other;
-        }
+        verdict = verdict.and(show_row(rt, row)?);
     }
     Ok(verdict)
 }
@@ -89,8 +100,21 @@ fn show_table<R: Input + Print + AllocGlobal + Threads + Wait + Sync>(
     }
 }
 
+// Runs the rows, and what no row describes.
+fn show_all<
+    R: Input
+        + Print
+        + Net<Listener = TcpListener, Stream = TcpStream>
+        + AllocGlobal
+        + Threads
+        + Wait
+        + Sync,
+>(rt: &R) -> io::Result<Verdict> {
+    Ok(show_table(rt)?.and(show_unlisted(rt)?))
+}
+
 fn main(rt: HostRuntime) -> ExitCode {
-    match show_table(&rt) {
+    match show_all(&rt) {
         Ok(Verdict::AsDue) => ExitCode::SUCCESS,
         Ok(Verdict::Other) => ExitCode::FAILURE,
         Err(fault) => {

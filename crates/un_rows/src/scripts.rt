@@ -1,11 +1,6 @@
 //! Commands that read from memory and write to memory, in pieces of a size, and with a source and a sink that fail.
 
-#[cfg(test)]
-mod faults;
-#[cfg(test)]
-mod makes;
-#[cfg(test)]
-mod words;
+pub(crate) mod faults;
 
 use std::alloc::{AllocError, Global};
 use un_io::{MemSink, MemSource, Plan, Word};

@@ -4,7 +4,6 @@ use super::{Calls, WHOLE, link_over, plan};
 use crate::scripts::words_of;
 use std::alloc::{AllocError, Global};
 use std::sync::Wait;
-use std::test::Fail;
 use std::thread::Threads;
 use un_io::{MemDoor, MemSource};
 use un_serve::run_serve;
@@ -84,12 +83,12 @@ fn first_other_read<R: Threads + Wait + Sync>(
     Ok(None)
 }
 
-#[test]
-fn a_server_ends_by_its_causes(rt: HostRuntime) -> Result<(), Fail> {
-    let others = (
-        first_other(&rt, rt.alloc())?,
-        first_other_read(&rt, rt.alloc())?,
-    );
-    assert_eq!(rt; others, (None, None));
-    Ok(())
+/// Whether servers end with the status of their cause.
+pub(crate) fn end_as_due<R: Threads + Wait + Sync>(
+    rt: &R,
+    alloc: Global,
+) -> Result<bool, AllocError> {
+    let server = first_other(rt, alloc)?;
+    let read = first_other_read(rt, alloc)?;
+    Ok(server.is_none() && read.is_none())
 }

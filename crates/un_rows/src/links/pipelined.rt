@@ -4,7 +4,6 @@ use super::given::gives;
 use super::{Calls, WHOLE};
 use std::alloc::{AllocError, Global};
 use std::sync::Wait;
-use std::test::Fail;
 use std::thread::Threads;
 use un_serve::LinkEnd;
 
@@ -59,10 +58,12 @@ fn first_other_end<R: Threads + Wait + Sync>(
     Ok(None)
 }
 
-#[test]
-fn whole_requests_are_answered_before_the_input_ends(rt: HostRuntime) -> Result<(), Fail> {
-    assert_eq!(rt; first_other_end(&rt, rt.alloc(), TALK)?, None);
-    Ok(())
+/// Whether all requests that are whole are answered, wherever the input ends.
+pub(crate) fn input_ends_as_due<R: Threads + Wait + Sync>(
+    rt: &R,
+    alloc: Global,
+) -> Result<bool, AllocError> {
+    Ok(first_other_end(rt, alloc, TALK)?.is_none())
 }
 
 // The least number of a read that fails and is answered otherwise than by the responses to the requests that were whole before it.
@@ -95,12 +96,17 @@ fn first_other_read<R: Threads + Wait + Sync>(
     Ok(None)
 }
 
-#[test]
-fn whole_requests_are_answered_before_a_read_fails(rt: HostRuntime) -> Result<(), Fail> {
+/// Whether all requests that are whole are answered, whichever read fails.
+pub(crate) fn reads_fail_as_due<R: Threads + Wait + Sync>(
+    rt: &R,
+    alloc: Global,
+) -> Result<bool, AllocError> {
     for size in [1, 7, 40] {
-        assert_eq!(rt; first_other_read(&rt, rt.alloc(), TALK, size)?, None);
+        if first_other_read(rt, alloc, TALK, size)?.is_some() {
+            return Ok(false);
+        }
     }
-    Ok(())
+    Ok(true)
 }
 
 // The least number of a write that fails and is answered otherwise than by the bytes that were written before it. Each write takes
@@ -131,8 +137,10 @@ fn first_other_write<R: Threads + Wait + Sync>(
     Ok(None)
 }
 
-#[test]
-fn a_write_that_fails_leaves_what_was_written(rt: HostRuntime) -> Result<(), Fail> {
-    assert_eq!(rt; first_other_write(&rt, rt.alloc(), TALK)?, None);
-    Ok(())
+/// Whether what was written before stands, whichever write fails.
+pub(crate) fn writes_fail_as_due<R: Threads + Wait + Sync>(
+    rt: &R,
+    alloc: Global,
+) -> Result<bool, AllocError> {
+    Ok(first_other_write(rt, alloc, TALK)?.is_none())
 }

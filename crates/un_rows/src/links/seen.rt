@@ -3,18 +3,17 @@
 use super::{Calls, WHOLE, link_over, serve};
 use std::alloc::{AllocError, Global};
 use std::sync::Wait;
-use std::test::Fail;
 use std::thread::Threads;
 use un_serve::LinkEnd;
 
 // What the two links send.
-pub(super) const INPUTS: [&[u8]; 2] = [
+const INPUTS: [&[u8]; 2] = [
     b"POST /commands HTTP/1.1\r\nContent-Length: 49\r\n\r\n{\"do\":\"insert\",\"kind\":\"joint\",\"points\":[[0,0,0]]}",
     b"POST /queries HTTP/1.1\r\nContent-Length: 26\r\n\r\n{\"ask\":\"version\",\"seen\":1}POST /queries HTTP/1.1\r\nContent-Length: 26\r\n\r\n{\"ask\":\"version\",\"seen\":2}POST /queries HTTP/1.1\r\nContent-Length: 60\r\n\r\n{\"ask\":\"trace\",\"type\":\"connected\",\"starts\":[[1,1]],\"seen\":1}",
 ];
 
 // What they are answered.
-pub(super) const OUTPUTS: [&[u8]; 2] = [
+const OUTPUTS: [&[u8]; 2] = [
     b"HTTP/1.1 200 OK\r\nContent-Type: application/json\r\nContent-Length: 48\r\n\r\n{\"areas\":[1,1],\"id\":1,\"ok\":\"insert\",\"version\":1}",
     b"HTTP/1.1 200 OK\r\nContent-Type: application/json\r\nContent-Length: 28\r\n\r\n{\"ok\":\"version\",\"version\":1}HTTP/1.1 409 Conflict\r\nContent-Type: application/json\r\nContent-Length: 47\r\n\r\n{\"error\":31,\"latest\":1,\"name\":\"Ahead\",\"seen\":2}HTTP/1.1 422 Unprocessable Content\r\nContent-Type: application/json\r\nContent-Length: 75\r\n\r\n{\"area\":1,\"error\":43,\"feature\":1,\"name\":\"DirtyGround\",\"port\":1,\"version\":1}",
 ];
@@ -56,8 +55,7 @@ fn first_other_cut<R: Threads + Wait + Sync>(
     Ok(None)
 }
 
-#[test]
-fn a_second_link_sees_what_the_first_one_made(rt: HostRuntime) -> Result<(), Fail> {
-    assert_eq!(rt; first_other_cut(&rt, rt.alloc(), (INPUTS, OUTPUTS))?, None);
-    Ok(())
+/// Whether a second link sees what the first one made.
+pub(crate) fn is_seen<R: Threads + Wait + Sync>(rt: &R, alloc: Global) -> Result<bool, AllocError> {
+    Ok(first_other_cut(rt, alloc, (INPUTS, OUTPUTS))?.is_none())
 }

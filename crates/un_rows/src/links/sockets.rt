@@ -5,9 +5,11 @@ use crate::scripts::words_of;
 use std::alloc::Global;
 use std::io;
 use std::io::{Read, Write};
-use std::net::{Ipv4Addr, OpenStream, Shutdown, SocketAddr, TcpListener, TcpStream};
-use std::test::Fail;
-use std::thread::join;
+use std::net::{
+    Ipv4Addr, Net, OpenListener, OpenStream, Shutdown, SocketAddr, TcpListener, TcpStream,
+};
+use std::sync::Wait;
+use std::thread::{Threads, join};
 use std::time::Duration;
 use un_io::{SureSource, TcpDoor};
 use un_serve::run_serve;
@@ -66,45 +68,46 @@ fn talk(alloc: Global, first: TcpStream, second: TcpStream) -> io::Result<bool> 
 }
 
 // A link to the server. A read that has no answer for so long fails, and does not hang.
-fn connect(rt: &HostRuntime, address: SocketAddr) -> io::Result<TcpStream> {
+fn connect<R: Net<Stream = TcpStream>>(rt: &R, address: SocketAddr) -> io::Result<TcpStream> {
     let link = TcpStream::connect(rt, address)?;
     link.set_read_timeout(Some(Duration::from_secs(20)))?;
     Ok(link)
 }
 
-#[test]
-fn two_links_are_served_at_once(rt: HostRuntime) -> Result<(), Fail> {
+/// Whether a link is served while the one before it waits, and whether each sees what the other one made.
+pub(crate) fn are_served_at_once<
+    R: Net<Listener = TcpListener, Stream = TcpStream> + AllocGlobal + Threads + Wait + Sync,
+>(rt: &R) -> io::Result<bool> {
     let alloc = rt.alloc();
     // The port is of no use: the door is there.
     let words = words_of(alloc, "serve 1 2")?;
     let mut schema = SureSource::new(b"{\"schema\":0}\n".to_vec(alloc)?);
-    let listener = TcpListener::bind(&rt, SocketAddr::from((Ipv4Addr::LOCALHOST, 0)))?;
+    let listener = TcpListener::bind(rt, SocketAddr::from((Ipv4Addr::LOCALHOST, 0)))?;
     let address = listener.local_addr()?;
     let mut door = ShortDoor::new(TcpDoor::new(listener), 2, Last::Closed);
-    let first = connect(&rt, address)?;
-    let second = connect(&rt, address)?;
+    let first = connect(rt, address)?;
+    let second = connect(rt, address)?;
     let (status, talked) = join(
-        &rt,
-        || run_serve(&rt, alloc, &words, &mut schema, &mut door),
+        rt,
+        || run_serve(rt, alloc, &words, &mut schema, &mut door),
         || talk(alloc, first, second).is_ok_and(|all| all),
     );
-    assert!(rt; talked);
-    assert_eq!(rt; status, 0);
-    Ok(())
+    Ok(talked && status == 0)
 }
 
-#[test]
-fn a_link_is_served_before_the_door_fails(rt: HostRuntime) -> Result<(), Fail> {
+/// Whether a link is served before the door fails, and the server ends with the status of the failure.
+pub(crate) fn is_served_before_the_door_fails<
+    R: Net<Listener = TcpListener, Stream = TcpStream> + AllocGlobal + Threads + Wait + Sync,
+>(rt: &R) -> io::Result<bool> {
     let alloc = rt.alloc();
     let words = words_of(alloc, "serve 1 1")?;
     let mut schema = SureSource::new(b"{\"schema\":0}\n".to_vec(alloc)?);
-    let listener = TcpListener::bind(&rt, SocketAddr::from((Ipv4Addr::LOCALHOST, 0)))?;
-    let mut client = connect(&rt, listener.local_addr()?)?;
+    let listener = TcpListener::bind(rt, SocketAddr::from((Ipv4Addr::LOCALHOST, 0)))?;
+    let mut client = connect(rt, listener.local_addr()?)?;
     let mut door = ShortDoor::new(TcpDoor::new(listener), 1, Last::Failed);
     client.write_all(VERSION)?;
     client.shutdown(Shutdown::Write)?;
-    let status = run_serve(&rt, alloc, &words, &mut schema, &mut door);
+    let status = run_serve(rt, alloc, &words, &mut schema, &mut door);
     let text = io::read_to_string(alloc, client)?;
-    assert!(rt; status == 5 && text.as_bytes() == VERSION_0);
-    Ok(())
+    Ok(status == 5 && text.as_bytes() == VERSION_0)
 }

@@ -2,7 +2,6 @@
 
 use super::{Calls, WHOLE, plan, run, words_of};
 use std::alloc::{AllocError, Global};
-use std::test::Fail;
 
 // The lines of a script, and those of its replies.
 #[derive(Clone, Copy)]
@@ -71,12 +70,14 @@ fn first_other_read(
     Ok(None)
 }
 
-#[test]
-fn a_source_that_fails_leaves_the_replies_to_whole_lines(rt: HostRuntime) -> Result<(), Fail> {
+/// Whether a script ends with status 3 and the replies to the lines that were whole, whichever of its reads fails.
+pub(crate) fn source_fails_as_due(alloc: Global) -> Result<bool, AllocError> {
     for size in [1, 7, 64] {
-        assert_eq!(rt; first_other_read(rt.alloc(), SCRIPT, size)?, None);
+        if first_other_read(alloc, SCRIPT, size)?.is_some() {
+            return Ok(false);
+        }
     }
-    Ok(())
+    Ok(true)
 }
 
 // The least number of a write that fails and is answered otherwise than by status 4 and the bytes that were written before it. Each
@@ -114,31 +115,27 @@ fn first_other_reply(alloc: Global, script: Script) -> Result<Option<usize>, All
     Ok(None)
 }
 
-#[test]
-fn a_sink_that_fails_keeps_a_prefix_of_the_replies(rt: HostRuntime) -> Result<(), Fail> {
-    let others = (
-        first_other_write(rt.alloc(), SCRIPT)?,
-        first_other_reply(rt.alloc(), SCRIPT)?,
-    );
-    assert_eq!(rt; others, (None, None));
-    Ok(())
+/// Whether a script ends with status 4 and a prefix of its replies, whichever of its writes fails.
+pub(crate) fn sink_fails_as_due(alloc: Global) -> Result<bool, AllocError> {
+    let write = first_other_write(alloc, SCRIPT)?;
+    let reply = first_other_reply(alloc, SCRIPT)?;
+    Ok(write.is_none() && reply.is_none())
 }
 
-#[test]
-fn a_source_of_a_follower_fails(rt: HostRuntime) -> Result<(), Fail> {
-    let calls = Calls {
+/// Whether a follower ends with status 3 and no reply where the read behind its first line fails.
+pub(crate) fn source_of_a_follower_fails_as_due(alloc: Global) -> Result<bool, AllocError> {
+    let reads = Calls {
         failing: 1,
         ..WHOLE
     };
-    assert!(rt;
-        gives(
-            rt.alloc(),
-            "follow",
-            b"{\"schema\":0}",
-            (calls, WHOLE),
-            3,
-            b""
-        )?
-    );
-    Ok(())
+    gives(alloc, "follow", b"{\"schema\":0}", (reads, WHOLE), 3, b"")
+}
+
+/// Whether the line of a network ends with status 4 and nothing written where its write fails.
+pub(crate) fn sink_of_a_network_fails_as_due(alloc: Global) -> Result<bool, AllocError> {
+    let writes = Calls {
+        failing: 0,
+        ..WHOLE
+    };
+    gives(alloc, "make 0 3", b"", (WHOLE, writes), 4, b"")
 }
