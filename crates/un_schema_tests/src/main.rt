@@ -1,27 +1,13 @@
-//! Tests of geometry, terminals, conditions, schemas and tiers.
+//! Tests of the reader of schemas, and so of what is good in attributes, categories, configurations, kinds, rules and tiers.
 //!
-//! The program reads schemas as JSON. The file `stdin` has lines, and the file `stdout` says on the same line what reading
-//! that line as a schema gives: `good`, or the place where it is bad, which is empty where the line as a whole is no object.
-//! A line that begins with `#` is a heading, and stands in both files. What each line gives was worked out by hand from the
-//! format of schemas. What is called with values, or is no such line, is tested by itself.
+//! The file `stdin` has lines, and the file `stdout` says on the same line what reading that line as a schema gives: `good`, or
+//! the place where it is bad, which is empty where the line as a whole is no object. A line that begins with `#` is a heading,
+//! and stands in both files. What each line gives was worked out by hand from the format of schemas.
 #![tactic(auto)]
 
 use std::alloc::Global;
 use std::io;
 use un_schema_json::{SchemaFault, read_schema};
-
-#[cfg(test)]
-mod conditions;
-#[cfg(test)]
-mod geometry;
-#[cfg(test)]
-mod json;
-#[cfg(test)]
-mod schemas;
-#[cfg(test)]
-mod terminals;
-#[cfg(test)]
-mod tiers;
 
 // What a line is: a schema, or the place where it is bad.
 fn outcome(alloc: Global, line: &[u8]) -> &'static str {
