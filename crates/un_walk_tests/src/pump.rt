@@ -1,279 +1,160 @@
-//! The ground of a pump between two mains.
+//! The ground of a pump whose inlet and outlet stand at two points, and which counts how often a star is asked for.
 //!
-//! Pump 1 and the first vertices of the mains 2 and 3 stand at one point. Main 2 goes 10 east from there with its flow, main 3 goes 10 west
-//! against its flow. The outlet of the pump has the category 0.
+//! A main begins at the inlet. The path through the pump leads from there 10 to the east, to the outlet, which area 7 covers.
 
-ghost use Rattle.std.specs.Prelude.{◌≡◌, true, false, pos, find, [], ◌∷◌, if◌then◌else◌};
-ghost use Rattle.std.specs.Option.{option_copied, option_map_or};
+ghost use Rattle.std.specs.Prelude.{◌≡◌, pos, [], ◌∷◌, if◌then◌else◌};
 ghost use Rattle.std.proofs.Common.{arith};
-ghost use Rattle.un_geom.specs.declared.point.Point.{Point};
 ghost use Rattle.un_geom.specs.Places.{same_point, covers};
-ghost use Rattle.un_defs.specs.declared.star.Star.{Star};
 ghost use Rattle.un_defs.specs.Star.{empty_star};
-ghost use Rattle.un_defs.specs.Ground.{AreNumbered};
 
 use std::alloc::{AllocError, Global};
 use std::cell::Cell;
 use un_attrs::{Attrs, Cats};
 use un_defs::link::Ties;
 use un_defs::star::{Spots, TopoErrors};
-use un_defs::{Controller, Ground, Ids, LinkName, Node, Port, Spot, Star, Tie};
+use un_defs::{Ground, Ids, LinkName, Node, Port, Spot, Star, Tie};
 use un_geom::Point;
-use un_schema::{Class, Name};
+use un_schema::Class;
 
-/// Stars by their points, and how often a star was asked for. With dirt, area 7 covers the points from (5, 0) to (10, 0).
+/// The stars at the inlet and at the outlet, and how often a star was asked for.
 #[derive(Drop)]
-pub(crate) struct Listed {
-    stars: Vec<(Point, Star)>,
-    with_dirt: bool,
+pub(crate) struct Pump {
+    inlet: Star,
+    outlet: Star,
     pub(crate) asked: Cell<u64>,
 }
 
-fn is_at(listed: &(Point, Star), p: Point) -> bool
-    ensures { result ≡ same_point listed.now.0 p }
+fn is_inlet(p: Point) -> bool
+    ensures { result ≡ same_point p (record { x = pos 0; y = pos 0; z = pos 0 }) }
 {
-    listed.0 == p
+    p == Point { x: 0, y: 0, z: 0 }
 }
 
-fn listed_at(stars: &[(Point, Star)], p: Point) -> Option<&(Point, Star)>
-    ensures { option_copied result ≡ find (λ (e : Point × Star). same_point e.0 p) stars.now }
+fn is_outlet(p: Point) -> bool
+    ensures { result ≡ same_point p (record { x = pos 10; y = pos 0; z = pos 0 }) }
 {
-    stars.iter().find(|listed| is_at(listed, p))
+    p == Point { x: 10, y: 0, z: 0 }
 }
 
-fn is_east(p: Point) -> bool
-    ensures { result ≡ covers (record { x0 = pos 5; y0 = pos 0; x1 = pos 10; y1 = pos 0 }) p }
+fn is_dirty(p: Point) -> bool
+    ensures { result ≡ covers (record { x0 = pos 5; y0 = pos 0; x1 = pos 15; y1 = pos 5 }) p }
 {
-    5 <= p.x && p.x <= 10 && 0 <= p.y && p.y <= 0
+    5 <= p.x && p.x <= 15 && 0 <= p.y && p.y <= 5
 }
 
-impl Ground for Listed {
-    ghost stars_and_areas = { λ l. record {
-      stars = λ p. option_map_or (λ (e : Point × Star). e.1) (find (λ (e : Point × Star). same_point e.0 p) l.stars.items) empty_star;
-      areas = if l.with_dirt then (7, record { x0 = pos 5; y0 = pos 0; x1 = pos 10; y1 = pos 0 }) ∷ [] else [];
+impl Ground for Pump {
+    ghost stars_and_areas = { λ pump. record {
+      stars = λ p. if same_point p (record { x = pos 0; y = pos 0; z = pos 0 }) then pump.inlet
+          else (if same_point p (record { x = pos 10; y = pos 0; z = pos 0 }) then pump.outlet else empty_star);
+      areas = (7, record { x0 = pos 5; y0 = pos 0; x1 = pos 15; y1 = pos 5 }) ∷ [];
     } };
 
-    ghost numbered = { λ l. elim l.with_dirt as (λ b. AreNumbered (if b then (7, record { x0 = pos 5; y0 = pos 0; x1 = pos 10; y1 = pos 0 }) ∷ [] else [])) [
-      | true ↦ λ i j d l m. absurd (Prim.omega arith)
-      | false ↦ λ i j d l m. absurd (Prim.omega arith)
-    ] };
+    ghost numbered = { λ pump i j d low high. absurd (Prim.omega arith) };
 
     fn star(&self, p: Point) -> Option<&Star> {
         self.asked.set(self.asked.get().wrapping_add(1));
-        match listed_at(self.stars.as_slice(), p) {
-            Some(listed) => Some(&listed.1),
-            None => None,
-        }
-    }
-
-    fn dirty(&self, p: Point) -> Option<u64> {
-        if self.with_dirt && is_east(p) {
-            Some(7)
+        if is_inlet(p) {
+            Some(&self.inlet)
+        } else if is_outlet(p) {
+            Some(&self.outlet)
         } else {
             None
         }
     }
-}
 
-/// A port on the line from west to east.
-pub(crate) fn node(feature: u64, number: u8, x: i32) -> Node {
-    Node {
-        port: Port { feature, number },
-        at: Point { x, y: 0, z: 0 },
+    fn dirty(&self, p: Point) -> Option<u64> {
+        if is_dirty(p) { Some(7) } else { None }
     }
 }
 
-/// A port with the links that start there, and the value of its attribute 4.
-#[derive(Clone, Copy)]
-struct End {
-    node: Node,
-    length: Option<i64>,
-    first: Tie,
-    second: Option<Tie>,
-}
+/// The inlet of the pump.
+const INLET: Node = Node {
+    port: Port {
+        feature: 1,
+        number: 1,
+    },
+    at: Point { x: 0, y: 0, z: 0 },
+};
 
-// A link through which flow goes out.
-fn leaving(name: LinkName, to: Node) -> Tie {
-    Tie {
-        name,
-        to,
-        out: true,
-        back: false,
-    }
-}
+/// The outlet of the pump.
+pub(crate) const OUTLET: Node = Node {
+    port: Port {
+        feature: 1,
+        number: 2,
+    },
+    at: Point { x: 10, y: 0, z: 0 },
+};
 
-// A link through which flow comes in.
-fn entering(name: LinkName, to: Node) -> Tie {
-    Tie {
-        name,
-        to,
-        out: false,
-        back: true,
-    }
-}
+/// The first vertex of the main, at the inlet.
+pub(crate) const MAIN: Node = Node {
+    port: Port {
+        feature: 2,
+        number: 0,
+    },
+    at: Point { x: 0, y: 0, z: 0 },
+};
 
-fn both_ways(name: LinkName, to: Node) -> Tie {
-    Tie {
-        name,
-        to,
-        out: true,
-        back: true,
-    }
-}
+const PATH: LinkName = LinkName::Path {
+    device: 1,
+    low: 1,
+    high: 2,
+};
 
-fn path() -> LinkName {
-    LinkName::Path {
-        device: 1,
-        low: 1,
-        high: 2,
-    }
-}
+const COIN: LinkName = LinkName::Coin {
+    junction: 1,
+    terminal: 1,
+    line: 2,
+    vertex: 0,
+};
 
-fn coin(terminal: u8, line: u64) -> LinkName {
-    LinkName::Coin {
-        junction: 1,
-        terminal,
-        line,
-        vertex: 0,
-    }
-}
+/// The path as the inlet has it.
+const TO_OUTLET: Tie = Tie {
+    name: PATH,
+    to: OUTLET,
+    out: true,
+    back: false,
+};
 
-fn stretch(line: u64) -> LinkName {
-    LinkName::Seg { line, index: 0 }
-}
+/// The path as the outlet has it.
+const TO_INLET: Tie = Tie {
+    name: PATH,
+    to: INLET,
+    out: false,
+    back: true,
+};
 
-fn end_at(node: Node, length: Option<i64>, first: Tie, second: Option<Tie>) -> End {
-    End {
-        node,
-        length,
-        first,
-        second,
-    }
-}
+/// What joins the inlet and the main, as the inlet has it.
+const TO_MAIN: Tie = Tie {
+    name: COIN,
+    to: MAIN,
+    out: true,
+    back: true,
+};
 
-fn terminals() -> [End; 2] {
-    let (inlet, outlet) = (node(1, 1, 0), node(1, 2, 0));
-    let west = both_ways(coin(1, 3), node(3, 0, 0));
-    let east = both_ways(coin(2, 2), node(2, 0, 0));
-    [
-        end_at(inlet, None, leaving(path(), outlet), Some(west)),
-        end_at(outlet, None, entering(path(), inlet), Some(east)),
-    ]
-}
+/// What joins the inlet and the main, as the main has it.
+const FROM_MAIN: Tie = Tie {
+    name: COIN,
+    to: INLET,
+    out: true,
+    back: true,
+};
 
-fn first_vertices() -> [End; 2] {
-    let to_outlet = both_ways(coin(2, 2), node(1, 2, 0));
-    let to_inlet = both_ways(coin(1, 3), node(1, 1, 0));
-    let east = leaving(stretch(2), node(2, 1, 10));
-    let west = entering(stretch(3), node(3, 1, -10));
-    [
-        end_at(node(2, 0, 0), Some(7), east, Some(to_outlet)),
-        end_at(node(3, 0, 0), Some(-2), west, Some(to_inlet)),
-    ]
-}
-
-fn far_vertices() -> [End; 2] {
-    let from_east = entering(stretch(2), node(2, 0, 0));
-    let from_west = leaving(stretch(3), node(3, 0, 0));
-    [
-        end_at(node(2, 1, 10), Some(100), from_east, None),
-        end_at(node(3, 1, -10), Some(100), from_west, None),
-    ]
-}
-
-/// A controller on a terminal of the pump.
-#[derive(Clone, Copy)]
-pub(crate) struct Control<'a> {
-    pub(crate) terminal: u8,
-    pub(crate) tier: u8,
-    pub(crate) subnet: &'a str,
-}
-
-fn controller(alloc: Global, control: &Control) -> Result<Option<Controller>, AllocError> {
-    match Name::new(String::from_str(alloc, control.subnet)?) {
-        Some(subnet) => Ok(Some(Controller {
-            port: node(1, control.terminal, 0).port,
-            tier: control.tier,
-            subnet,
-        })),
-        None => Ok(None),
-    }
-}
-
-fn controller_of(
-    alloc: Global,
-    controls: &[Control],
-    port: Port,
-) -> Result<Option<Controller>, AllocError> {
-    for control in controls {
-        if port.feature == 1 && port.number == control.terminal {
-            return controller(alloc, control);
-        }
-    }
-    Ok(None)
-}
-
-fn length(value: Option<i64>) -> Result<Attrs, AllocError> {
-    let attrs = match value {
-        Some(value) => Attrs::new(&[(Some(4), value)]),
-        None => Attrs::new(&[]),
+fn spot(alloc: Global, node: Node, ties: &[Tie]) -> Result<Spot, AllocError> {
+    let Ok(attrs) = Attrs::new(&[]) else {
+        return Err(AllocError);
     };
-    match attrs {
-        Ok(attrs) => Ok(attrs),
-        Err(_) => Err(AllocError),
-    }
-}
-
-fn ties(alloc: Global, end: &End) -> Result<Ties, AllocError> {
-    let mut ties = vec![in alloc; end.first]?;
-    if let Some(second) = end.second {
-        ties.push(second)?;
-    }
-    Ok(Ties::new(ties))
-}
-
-fn class_of(port: Port) -> Class {
-    match port.feature {
-        1 => Class::Device,
-        _ => Class::Line,
-    }
-}
-
-fn cats_of(port: Port) -> Cats {
-    match (port.feature, port.number) {
-        (1, 2) => Cats(1),
-        _ => Cats(0),
-    }
-}
-
-// An entry in container 9, to which the contents 8 and 4 and the structure 12 belong.
-fn spot(alloc: Global, controls: &[Control], end: &End) -> Result<Spot, AllocError> {
-    let port = end.node.port;
     Ok(Spot {
-        port,
+        port: node.port,
+        ties: Ties::new(ties.to_vec(alloc)?),
         kind: 0,
-        class: class_of(port),
-        cats: cats_of(port),
-        attrs: length(end.length)?,
-        ties: ties(alloc, end)?,
-        controller: controller_of(alloc, controls, port)?,
-        container: 9,
-        contents: Ids::new(vec![in alloc; 4, 8]?),
-        structures: Ids::new(vec![in alloc; 12]?),
+        class: Class::Device,
+        controller: None,
+        cats: Cats(0),
+        container: 0,
+        contents: Ids::new(Vec::new(alloc)),
+        structures: Ids::new(Vec::new(alloc)),
+        attrs,
     })
-}
-
-fn add_spots(
-    alloc: Global,
-    spots: &mut Vec<Spot>,
-    controls: &[Control],
-    ends: &[End],
-) -> Result<(), AllocError> {
-    for end in ends {
-        let spot = spot(alloc, controls, end)?;
-        spots.push(spot)?;
-    }
-    Ok(())
 }
 
 fn star(alloc: Global, spots: Vec<Spot>) -> Star {
@@ -283,53 +164,24 @@ fn star(alloc: Global, spots: Vec<Spot>) -> Star {
     }
 }
 
-fn center(alloc: Global, controls: &[Control]) -> Result<Star, AllocError> {
-    let mut spots = Vec::new(alloc);
-    add_spots(alloc, &mut spots, controls, &terminals())?;
-    add_spots(alloc, &mut spots, controls, &first_vertices())?;
-    Ok(star(alloc, spots))
+fn at_inlet(alloc: Global) -> Result<Star, AllocError> {
+    let inlet = spot(alloc, INLET, &[TO_OUTLET, TO_MAIN])?;
+    let main = spot(alloc, MAIN, &[FROM_MAIN])?;
+    Ok(star(alloc, vec![in alloc; inlet, main]?))
 }
 
-// Adds a star for each of the ends, which stand at points of their own.
-fn add_stars(
-    alloc: Global,
-    stars: &mut Vec<(Point, Star)>,
-    ends: &[End],
-) -> Result<(), AllocError> {
-    for end in ends {
-        let spots = vec![in alloc; spot(alloc, &[], end)?]?;
-        stars.push((end.node.at, star(alloc, spots)))?;
+fn at_outlet(alloc: Global) -> Result<Star, AllocError> {
+    let outlet = spot(alloc, OUTLET, &[TO_INLET])?;
+    Ok(star(alloc, vec![in alloc; outlet]?))
+}
+
+impl Pump {
+    /// The pump and the main, of which nothing was asked for yet.
+    pub(crate) fn new(alloc: Global) -> Result<Pump, AllocError> {
+        Ok(Pump {
+            inlet: at_inlet(alloc)?,
+            outlet: at_outlet(alloc)?,
+            asked: Cell::new(0),
+        })
     }
-    Ok(())
-}
-
-/// The pump with these controllers and its mains.
-pub(crate) fn pumped(
-    alloc: Global,
-    controls: &[Control],
-    with_dirt: bool,
-) -> Result<Listed, AllocError> {
-    let mut stars = vec![in alloc; (node(0, 0, 0).at, center(alloc, controls)?)]?;
-    add_stars(alloc, &mut stars, &far_vertices())?;
-    Ok(Listed {
-        stars,
-        with_dirt,
-        asked: Cell::new(0),
-    })
-}
-
-/// The two terminals of a device at two points, and nothing else.
-pub(crate) fn apart(alloc: Global) -> Result<Listed, AllocError> {
-    let (west, east) = (node(1, 1, 0), node(1, 2, 10));
-    let ends = [
-        end_at(west, None, both_ways(path(), east), None),
-        end_at(east, None, both_ways(path(), west), None),
-    ];
-    let mut stars = Vec::new(alloc);
-    add_stars(alloc, &mut stars, &ends)?;
-    Ok(Listed {
-        stars,
-        with_dirt: false,
-        asked: Cell::new(0),
-    })
 }

@@ -1,2 +1,0 @@
-pub mod OwnPorts
-pub mod PipeLinks
