@@ -1,6 +1,7 @@
-//! What stands after a call for which memory ran out: every later reply is as it would be. The tests elsewhere have ample
-//! memory; this one also passes where any one allocation is refused.
+//! What stands after a call for which memory ran out: every later reply is as it would be. Tests elsewhere have ample memory; this one
+//! also passes where any one allocation is refused.
 ghost use Rattle.std.specs.Prelude.{◌≡◌, ◌∷◌, []};
+ghost use Rattle.un_asof.specs.Pasts.{StandsFor};
 
 use crate::counter::Counter;
 use std::alloc::Global;
@@ -8,9 +9,10 @@ use std::marker::Brand;
 use std::process::Abort;
 use std::sync::Wait;
 use std::test::*;
+use un_asof::Past;
 use un_desk::desk::Desk;
 use un_journal::receipt::Receipt;
-use un_machine::Entry;
+use un_machine::{Entry, Machine};
 use un_publish::prefix::NewLog;
 use un_publish::published::BoardName;
 use un_publish::session::Session;
@@ -29,7 +31,7 @@ fn serve_again<R: Wait + Abort>(rt: &R, alloc: Global) -> bool {
     serve::<Brand, _>(rt, alloc, NewLog::new())
 }
 
-// Whether a desk could be opened. Each command is given until it has a receipt, but twice at most.
+// Whether a desk could be opened and a past started. Each call after that is made until it has an answer, but twice at most.
 fn serve<J: BoardName<Counter>, R: Wait + Abort>(
     rt: &R,
     alloc: Global,
@@ -47,12 +49,17 @@ fn serve<J: BoardName<Counter>, R: Wait + Abort>(
     ) else {
         return false;
     };
-    let (Some(mut one), Some(mut zero)) = (sessions.pop(), sessions.pop()) else {
+    let (Some(mut one), Some(mut zero), Ok(mut past)) = (
+        sessions.pop(),
+        sessions.pop(),
+        desk.start_past(alloc),
+    ) else {
         desk.close(rt);
         return false;
     };
-    submit_twelve(rt, alloc, &desk, &mut zero);
-    submit_last(rt, alloc, &desk, &mut zero);
+    submit_many(rt, alloc, &desk, &mut zero);
+    submit_last(rt, alloc, &desk, &mut zero, &mut one);
+    look_back(rt, alloc, &desk, &mut one, &mut past);
     check_both(rt, &desk, &mut zero, &mut one);
     desk.close(rt);
     true
@@ -71,35 +78,52 @@ fn submit_at_last<J: BoardName<Counter>, R: Wait>(
     }
 }
 
-// Twelve commands of 5, each of which is accepted once.
-fn submit_twelve<J: BoardName<Counter>, R: Wait + Abort>(
+// 69 commands of 1, each of which is accepted once.
+fn submit_many<J: BoardName<Counter>, R: Wait + Abort>(
     rt: &R,
     alloc: Global,
     desk: &Desk<Counter, J>,
     session: &mut Session<Counter, J>,
 ) {
-    for version in 1..13u64 {
-        let total = version * 5;
-        let receipt = submit_at_last(rt, alloc, desk, session, 5);
-        assert!(rt;
-            receipt.is_some_and(|r| r.version == version && r.accepted && r.reply == total)
-        );
+    for total in 1..70u64 {
+        let receipt = submit_at_last(rt, alloc, desk, session, 1);
+        assert!(rt; receipt.is_some_and(|r| r.version == total && r.accepted && r.reply == total));
         let view = session.read();
-        assert!(rt; view.is_ok_and(|v| v.version == version && v.state.total == total));
+        assert!(rt; view.is_ok_and(|v| v.version == total && v.state.total == total));
     }
 }
 
-// After a total of 60, one more than fits, and what fits.
+// After a total of 69, one more than fits from a session that has seen nothing yet, and what fits.
 fn submit_last<J: BoardName<Counter>, R: Wait + Abort>(
     rt: &R,
     alloc: Global,
     desk: &Desk<Counter, J>,
-    session: &mut Session<Counter, J>,
+    zero: &mut Session<Counter, J>,
+    one: &mut Session<Counter, J>,
 ) {
-    let refused = submit_at_last(rt, alloc, desk, session, 41);
-    assert!(rt; refused.is_some_and(|r| r.version == 12 && !r.accepted && r.reply == 60));
-    let last = submit_at_last(rt, alloc, desk, session, 40);
-    assert!(rt; last.is_some_and(|r| r.version == 13 && r.accepted && r.reply == 100));
+    let refused = submit_at_last(rt, alloc, desk, one, 32);
+    assert!(rt; refused.is_some_and(|r| r.version == 69 && !r.accepted && r.reply == 69));
+    let last = submit_at_last(rt, alloc, desk, zero, 31);
+    assert!(rt; last.is_some_and(|r| r.version == 70 && r.accepted && r.reply == 100));
+}
+
+// Version 69 takes two rounds of steps from the opening state. The state after the first round is kept too, so that none of its
+// steps is made again.
+fn look_back<J: BoardName<Counter>, R: Wait + Abort>(
+    rt: &R,
+    alloc: Global,
+    desk: &Desk<Counter, J>,
+    session: &mut Session<Counter, J>,
+    past: &mut Past<Counter, J>,
+)
+    requires { StandsFor ⟦<Counter as Machine>⟧.step J.opening past.old session.old.seen }
+{
+    let view = match desk.past(rt, alloc, session, past, 69) {
+        Ok(view) => Ok(view),
+        Err(_) => desk.past(rt, alloc, session, past, 69),
+    };
+    assert!(rt; view.is_ok_and(|v| v.version == 69 && v.state.total == 69));
+    assert_eq!(rt; (past.near(68).0, past.near(70).0), (64, 69));
 }
 
 fn check_both<J: BoardName<Counter>, R: Wait + Abort>(
@@ -108,10 +132,10 @@ fn check_both<J: BoardName<Counter>, R: Wait + Abort>(
     zero: &mut Session<Counter, J>,
     one: &mut Session<Counter, J>,
 ) {
-    let view = desk.read_at_least(rt, one, 13);
-    assert!(rt; view.is_ok_and(|v| v.version == 13 && v.state.total == 100));
+    let view = desk.read_at_least(rt, one, 70);
+    assert!(rt; view.is_ok_and(|v| v.version == 70 && v.state.total == 100));
     assert!(rt; desk.meet(rt, zero, one).is_ok());
-    assert_eq!(rt; (zero.seen(), one.seen()), (13, 13));
-    assert_eq!(rt; (zero.own(), one.own()), (13, 0));
+    assert_eq!(rt; (zero.seen(), one.seen()), (70, 70));
+    assert_eq!(rt; (zero.own(), one.own()), (70, 0));
     assert_eq!(rt; (zero.denied(), one.denied()), (0, 0));
 }
