@@ -209,7 +209,7 @@ fn put_area(
 
 /// The cells with the areas of some rectangles, numbered from the first number on, and how many levels are in use.
 pub(crate) fn with_areas(
-    cells: &Cells,
+    cells: Cells,
     alloc: Global,
     levels: u32,
     first: u64,
@@ -219,11 +219,11 @@ pub(crate) fn with_areas(
     requires room { first + length rects.now < 2 ^ 64 }
     ensures few { IfOk result (λ r. r.1 ≤ 20) }
     ensures rising { IfOk result (λ r. levels ≤ r.1) }
-    ensures kept { IfOk result (λ r. Keeps cells.now r.0) }
+    ensures kept { IfOk result (λ r. Keeps cells r.0) }
     ensures each { IfOk result (λ r. AllByRecursion (IsIndexed r.0 r.1) (enumerate_from first rects.now)) }
 {
     let unit = Arc::new(alloc, ())?;
-    let mut all = cells.share()?;
+    let mut all = cells;
     let mut used = levels;
     let mut number = first;
     for rect in rects {

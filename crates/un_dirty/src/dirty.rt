@@ -1,5 +1,5 @@
 // The list of areas.
-ghost use Rattle.std.specs.Prelude.{◌≡◌, ◌↔◌, ◌<◌, ◌≤◌, ◌+◌, ◌^◌, ◌++◌, not, map, filter, find, length, IfOk, IsErrOf};
+ghost use Rattle.std.specs.Prelude.{◌≡◌, ◌↔◌, ◌<◌, ◌≤◌, ◌+◌, ◌^◌, ◌++◌, true, not, map, filter, find, length, IfOk, IsErrOf};
 ghost use Rattle.std.specs.Option.{option_map};
 ghost use Rattle.std.specs.List.{enumerate_from, AllByRecursion};
 ghost use Rattle.un_geom.specs.Places.{meets, covers};
@@ -103,6 +103,37 @@ impl Dirty {
         })
     }
 
+    /// Whether there is room for so many more areas.
+    pub fn has_room(&self, count: u64) -> bool
+        requires { count < 2 ^ 32 }
+        ensures { result ≡ true ↔ (length self.now.areas + count ≤ 65536) }
+    {
+        self.areas.len() + count <= MOST_AREAS
+    }
+
+    /// The list with the rectangles after its areas, in this order, numbered on, for which there is room. It takes the list, and changes in
+    /// place what no other list shares.
+    pub fn with(self, alloc: Global, rects: &[Rect]) -> Result<Dirty, Memory>
+        requires next { self.next < 9_000_000_000_100_000 }
+        requires room { length self.areas + length rects.now ≤ 65536 }
+        ensures { IfOk result (λ d. d ≡ added self rects.now) }
+    {
+        let Dirty {
+            areas,
+            next,
+            cells,
+            levels,
+        } = self;
+        let areas = extended(areas, alloc, next, rects)?;
+        let (cells, levels) = with_areas(cells, alloc, levels, next, rects)?;
+        Ok(Dirty {
+            areas,
+            next: next + rects.len() as u64,
+            cells,
+            levels,
+        })
+    }
+
     /// The list with the rectangles after its areas, in this order, numbered on.
     pub fn add(&self, alloc: Global, rects: &[Rect]) -> Result<Dirty, DirtyFault>
         requires next { self.now.next < 9_000_000_000_100_000 }
@@ -110,18 +141,10 @@ impl Dirty {
         ensures list { IfOk result (λ d. d ≡ added self.now rects.now) }
         ensures full { IsErrOf result DirtyFault.Full ↔ (65536 < length self.now.areas + length rects.now) }
     {
-        let count = rects.len() as u64;
-        if self.areas.len() + count > MOST_AREAS {
+        if !self.has_room(rects.len() as u64) {
             return Err(DirtyFault::Full);
         }
-        let areas = extended(&self.areas, alloc, self.next, rects)?;
-        let (cells, levels) = with_areas(&self.cells, alloc, self.levels, self.next, rects)?;
-        Ok(Dirty {
-            areas,
-            next: self.next + count,
-            cells,
-            levels,
-        })
+        Ok(self.share()?.with(alloc, rects)?)
     }
 
     /// The areas that meet the rectangle, with their numbers, rising.
@@ -168,16 +191,16 @@ impl Dirty {
 
 // The areas, with the rectangles after them.
 fn extended(
-    areas: &Paged<u64, Rect>,
+    areas: Paged<u64, Rect>,
     alloc: Global,
     first: u64,
     rects: &[Rect],
 ) -> Result<Paged<u64, Rect>, Memory>
-    requires under { AllByRecursion (λ a. a.0 < first) areas.now }
+    requires under { AllByRecursion (λ a. a.0 < first) areas }
     requires room { first + length rects.now < 2 ^ 64 }
-    ensures { IfOk result (λ m. m ≡ areas.now ++ enumerate_from first rects.now) }
+    ensures { IfOk result (λ m. m ≡ areas ++ enumerate_from first rects.now) }
 {
-    let mut extended = areas.share()?;
+    let mut extended = areas;
     let mut number = first;
     for rect in rects {
         extended.put(alloc, number, Arc::new(alloc, *rect)?)?;

@@ -7,5 +7,6 @@ pub mod Ruling
 pub mod Partners
 pub mod Rectangles
 pub mod Standers
+pub mod Changing
 pub mod Places
 pub mod Laws

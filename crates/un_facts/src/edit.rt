@@ -6,24 +6,40 @@ ghost use Rattle.un_defs.specs.Dirtied.{dirtied};
 ghost use Rattle.un_store.specs.Words.{IsRowEdit};
 ghost use Rattle.un_assoc.specs.Words.{IsLinkEdit};
 ghost use Rattle.un_facts.specs.Known.{setting, next_at, edited, linked};
+ghost use Rattle.un_facts.specs.Changing.{AreRowsAfter, Follows};
 ghost use Rattle.un_facts.specs.Standing.{IsKnown};
 ghost use Rattle.un_facts.specs.Refusals.{is_row_edit, is_of_features, refusal_of};
 
 use crate::facts::{Facts, Parts};
 use crate::ids::NextIds;
-use crate::ports::with_ports;
+use crate::ports::move_ports;
 use crate::rectangles::row_of;
 use std::alloc::{AllocError, Global};
 use un_assoc::Assocs;
 use un_assoc::laws::links_alone;
 use un_defs::{Edit, Refusal};
 use un_geom::Rect;
+use un_store::Store;
 use un_tiers::Setup;
 
 /// The features once an edit is made, and the rectangles that it makes dirty.
 #[derive(Drop)]
 pub struct Made {
     pub facts: Facts,
+    pub dirtied: Vec<Rect>,
+}
+
+/// The rows, or the associations and controllers, that an edit leaves.
+#[derive(Drop)]
+pub enum After {
+    Rows(Store),
+    Links(Assocs),
+}
+
+/// What an edit leaves, and the rectangles that it makes dirty.
+#[derive(Drop)]
+pub struct Change {
+    pub after: After,
     pub dirtied: Vec<Rect>,
 }
 
@@ -46,18 +62,18 @@ fn is_row_edit(edit: &Edit) -> bool
 }
 
 impl Facts {
-    /// The features once an edit of a row is made.
-    fn edit_row(
+    // What an edit of a row leaves.
+    fn row_change(
         &self,
         alloc: Global,
         edit: &Edit,
         ids: NextIds,
         moment: u64,
-    ) -> Result<Made, Refusal>
+    ) -> Result<Change, Refusal>
         requires word { IsRowEdit edit.now }
         requires new { AreNew (next_at ids moment) self.now.features }
-        ensures features { IfOk result (λ m. m.facts ≡ edited self.now ids moment edit.now) }
-        ensures dirtied { IfOk result (λ m. m.dirtied.items ≡ dirtied self.now.features edit.now) }
+        ensures follows { IfOk result (λ c. Follows self.now ids moment edit.now c.after) }
+        ensures dirtied { IfOk result (λ c. c.dirtied.items ≡ dirtied self.now.features edit.now) }
         ensures may { OnOk result
             (MayBeMade (setting self.now.setup) (next_at ids moment) self.now.features edit.now) }
         ensures good { OnOk result (refusal_of self.now edit.now ≡ None) }
@@ -74,53 +90,24 @@ impl Facts {
         let before = parts.rows.row(id);
         let after = rows.row(id);
         let dirtied = self.rectangles(alloc, edit, before, after)?;
-        let grid = with_ports(&parts.grid, alloc, edit, before, after)?;
-        let assocs = parts.assocs.share()?;
-        let frame = parts.frame.clone()?;
-        let facts = Facts::of(
-            alloc,
-            Parts {
-                frame,
-                rows,
-                assocs,
-                grid,
-            },
-        )?;
-        Ok(Made { facts, dirtied })
+        Ok(Change {
+            after: After::Rows(rows),
+            dirtied,
+        })
     }
 
-    // The same features but for the associations and controllers.
-    fn with_assocs(&self, alloc: Global, assocs: Assocs) -> Result<Facts, AllocError>
-        requires { IsKnown (linked self.now assocs) }
-        ensures { IfOk result (λ facts. facts ≡ linked self.now assocs) }
-    {
-        let parts = self.parts();
-        let frame = parts.frame.clone()?;
-        let rows = parts.rows.share()?;
-        let grid = parts.grid.share()?;
-        Facts::of(
-            alloc,
-            Parts {
-                frame,
-                rows,
-                assocs,
-                grid,
-            },
-        )
-    }
-
-    /// The features once an edit of an association or of a controller is made.
-    fn edit_link(
+    // What an edit of an association or of a controller leaves.
+    fn link_change(
         &self,
         alloc: Global,
         edit: &Edit,
         ids: NextIds,
         moment: u64,
-    ) -> Result<Made, Refusal>
+    ) -> Result<Change, Refusal>
         requires word { IsLinkEdit edit.now }
         requires new { AreNew (next_at ids moment) self.now.features }
-        ensures features { IfOk result (λ m. m.facts ≡ edited self.now ids moment edit.now) }
-        ensures dirtied { IfOk result (λ m. m.dirtied.items ≡ dirtied self.now.features edit.now) }
+        ensures follows { IfOk result (λ c. Follows self.now ids moment edit.now c.after) }
+        ensures dirtied { IfOk result (λ c. c.dirtied.items ≡ dirtied self.now.features edit.now) }
         ensures may { OnOk result
             (MayBeMade (setting self.now.setup) (next_at ids moment) self.now.features edit.now) }
         ensures good { OnOk result (refusal_of self.now edit.now ≡ None) }
@@ -136,15 +123,100 @@ impl Facts {
             .assocs
             .edit(alloc, edit, &parts.rows, schema, tiers, ids.association)?;
         let dirtied = self.rectangles(alloc, edit, None, None)?;
-        let facts = self.with_assocs(alloc, assocs)?;
-        Ok(Made { facts, dirtied })
+        Ok(Change {
+            after: After::Links(assocs),
+            dirtied,
+        })
     }
 
-    /// The features once an edit is made at a moment, with the rectangles that it makes dirty.
+    /// What an edit leaves that may be made at a moment, with the rectangles that it makes dirty. It changes nothing.
     ///
     /// An edit of a row is refused, in this order: as the store of rows refuses it; a delete by `HasAssociations`; a delete and a kind by
     /// `HasControllers`. An edit of an association or of a controller is refused as the store of these refuses it. It answers `Memory` only
-    /// for want of memory, and no refusal changes anything.
+    /// for want of memory.
+    pub fn change(
+        &self,
+        alloc: Global,
+        edit: &Edit,
+        ids: NextIds,
+        moment: u64,
+    ) -> Result<Change, Refusal>
+        requires word { is_of_features edit.now ≡ true }
+        requires new { AreNew (next_at ids moment) self.now.features }
+        ensures follows { IfOk result (λ c. Follows self.now ids moment edit.now c.after) }
+        ensures dirtied { IfOk result (λ c. c.dirtied.items ≡ dirtied self.now.features edit.now) }
+        ensures may { OnOk result
+            (MayBeMade (setting self.now.setup) (next_at ids moment) self.now.features edit.now) }
+        ensures good { OnOk result (refusal_of self.now edit.now ≡ None) }
+        ensures bad { IfErr result (λ refusal. refusal ≢ Memory
+            → refusal_of self.now edit.now ≡ Some refusal) }
+    {
+        if is_row_edit(edit) {
+            self.row_change(alloc, edit, ids, moment)
+        } else {
+            self.link_change(alloc, edit, ids, moment)
+        }
+    }
+
+    // The features with these rows, which an edit of a row has left, in place of their own.
+    fn with_rows(
+        self,
+        alloc: Global,
+        edit: &Edit,
+        ids: NextIds,
+        moment: u64,
+        rows: Store,
+    ) -> Result<Facts, AllocError>
+        requires word { IsRowEdit edit.now }
+        requires new { AreNew (next_at ids moment) self.features }
+        requires rows { AreRowsAfter self ids moment edit.now rows }
+        requires may { MayBeMade (setting self.setup) (next_at ids moment) self.features edit.now }
+        ensures { IfOk result (λ facts. facts ≡ edited self ids moment edit.now) }
+    {
+        let mut parts = self.into_parts()?;
+        let id = row_of(edit, ids.feature);
+        let before = parts.rows.row(id);
+        let after = rows.row(id);
+        move_ports(&mut parts.grid, alloc, edit, before, after)?;
+        parts.rows = rows;
+        let facts = Facts::of(alloc, parts)?;
+        Ok(facts)
+    }
+
+    // The same features but for the associations and controllers.
+    fn with_links(self, alloc: Global, assocs: Assocs) -> Result<Facts, AllocError>
+        requires { IsKnown (linked self assocs) }
+        ensures { IfOk result (λ facts. facts ≡ linked self assocs) }
+    {
+        let mut parts = self.into_parts()?;
+        parts.assocs = assocs;
+        let facts = Facts::of(alloc, parts)?;
+        Ok(facts)
+    }
+
+    /// The features with what an edit leaves. Where no other features share a page of the ports, it is changed in place.
+    pub fn changed(
+        self,
+        alloc: Global,
+        edit: &Edit,
+        ids: NextIds,
+        moment: u64,
+        after: After,
+    ) -> Result<Facts, AllocError>
+        requires new { AreNew (next_at ids moment) self.features }
+        requires follows { Follows self ids moment edit.now after }
+        requires may { MayBeMade (setting self.setup) (next_at ids moment) self.features edit.now }
+        ensures { IfOk result (λ facts. facts ≡ edited self ids moment edit.now) }
+    {
+        match after {
+            After::Rows(rows) => self.with_rows(alloc, edit, ids, moment, rows),
+            After::Links(assocs) => self.with_links(alloc, assocs),
+        }
+    }
+
+    /// The features once an edit is made at a moment, with the rectangles that it makes dirty. These features stay as they are.
+    ///
+    /// It is refused as `change` refuses it.
     pub fn edit(
         &self,
         alloc: Global,
@@ -162,10 +234,8 @@ impl Facts {
         ensures bad { IfErr result (λ refusal. refusal ≢ Memory
             → refusal_of self.now edit.now ≡ Some refusal) }
     {
-        if is_row_edit(edit) {
-            self.edit_row(alloc, edit, ids, moment)
-        } else {
-            self.edit_link(alloc, edit, ids, moment)
-        }
+        let Change { after, dirtied } = self.change(alloc, edit, ids, moment)?;
+        let facts = self.share()?.changed(alloc, edit, ids, moment, after)?;
+        Ok(Made { facts, dirtied })
     }
 }

@@ -39,6 +39,23 @@ pub(crate) struct Parts {
     pub(crate) grid: Grid,
 }
 
+impl Parts {
+    // The same parts.
+    fn share(&self) -> Result<Parts, AllocError>
+        ensures frame { IfOk result (λ p. arc_value p.frame ≡ arc_value self.now.frame) }
+        ensures rows { IfOk result (λ p. p.rows ≡ self.now.rows) }
+        ensures assocs { IfOk result (λ p. p.assocs ≡ self.now.assocs) }
+        ensures grid { IfOk result (λ p. p.grid ≡ self.now.grid) }
+    {
+        Ok(Parts {
+            frame: self.frame.clone()?,
+            rows: self.rows.share()?,
+            assocs: self.assocs.share()?,
+            grid: self.grid.share()?,
+        })
+    }
+}
+
 impl Model for Facts {
     ghost use Rattle.std.specs.Arc.{arc_value};
     ghost use Rattle.std.specs.Coded.{codes};
@@ -79,6 +96,19 @@ impl Facts {
             (features_of (arc_value result.now.frame).rules result.now.rows result.now.assocs) }
     {
         &self.parts
+    }
+
+    /// What these features are made of, which no other features share.
+    pub(crate) fn into_parts(self) -> Result<Parts, AllocError>
+        ensures value { IfOk result (λ p. known_of (arc_value p.frame) p.rows p.assocs ≡ self) }
+        ensures known { IfOk result (λ p. IsKnown (known_of (arc_value p.frame) p.rows p.assocs)) }
+        ensures grid { IfOk result (λ p. IsGridOf p.grid
+            (features_of (arc_value p.frame).rules p.rows p.assocs)) }
+    {
+        match Arc::try_unwrap(self.parts) {
+            Ok(parts) => Ok(parts),
+            Err(shared) => shared.share(),
+        }
     }
 
     /// No features yet, under a schema and tiers.

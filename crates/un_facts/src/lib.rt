@@ -41,7 +41,7 @@ mod rectangles;
 pub mod rules;
 mod standing;
 
-pub use edit::Made;
+pub use edit::{After, Change, Made};
 pub use facts::Facts;
 pub use ids::NextIds;
 pub use live::Live;

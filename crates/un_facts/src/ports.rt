@@ -1,5 +1,5 @@
 //! Which ports stand where once a row was edited.
-ghost use Rattle.std.specs.Prelude.{◌≡◌, IfOk, IfSome};
+ghost use Rattle.std.specs.Prelude.{OnOk, IfSome};
 ghost use Rattle.std.specs.Option.{option_copied};
 ghost use Rattle.un_grid.specs.Grids.{HasRow, LacksRow, HasInPlace};
 ghost use Rattle.un_facts.specs.Standers.{HasPorts};
@@ -8,57 +8,57 @@ use std::alloc::{AllocError, Global};
 use un_defs::{Edit, Row};
 use un_grid::Grid;
 
-// The grid with the ports of a row besides its own, if there is one.
-fn with_row(grid: &Grid, alloc: Global, after: Option<&Row>) -> Result<Grid, AllocError>
-    ensures { IfOk result (λ g. IfSome (option_copied after.entry) (HasRow grid.now g)) }
+// Puts the ports of a row in, if there is one.
+fn put_row(grid: &mut Grid, alloc: Global, after: Option<&Row>) -> Result<(), AllocError>
+    ensures { OnOk result (IfSome (option_copied after.entry) (HasRow grid.old grid.new)) }
 {
     match after {
-        Some(row) => grid.insert(alloc, row),
-        None => grid.share(),
+        Some(row) => grid.put(alloc, row),
+        None => Ok(()),
     }
 }
 
-// The grid without the ports of a row, if there is one.
-fn without_row(grid: &Grid, alloc: Global, before: Option<&Row>) -> Result<Grid, AllocError>
-    ensures { IfOk result (λ g. IfSome (option_copied before.entry) (LacksRow grid.now g)) }
+// Takes the ports of a row out, if there is one.
+fn take_row(grid: &mut Grid, alloc: Global, before: Option<&Row>) -> Result<(), AllocError>
+    ensures { OnOk result (IfSome (option_copied before.entry) (LacksRow grid.old grid.new)) }
 {
     match before {
-        Some(row) => grid.remove(alloc, row),
-        None => grid.share(),
+        Some(row) => grid.take(alloc, row),
+        None => Ok(()),
     }
 }
 
-// The grid with the ports of a row in place of those of another, if there are both.
-fn with_changed(
-    grid: &Grid,
+// Puts the ports of a row in the place of those of another, if there are both.
+fn exchange_rows(
+    grid: &mut Grid,
     alloc: Global,
     before: Option<&Row>,
     after: Option<&Row>,
-) -> Result<Grid, AllocError>
-    ensures { IfOk result (λ g. IfSome (option_copied before.entry)
-        (λ r. IfSome (option_copied after.entry) (HasInPlace grid.now g r))) }
+) -> Result<(), AllocError>
+    ensures { OnOk result (IfSome (option_copied before.entry)
+        (λ r. IfSome (option_copied after.entry) (HasInPlace grid.old grid.new r))) }
 {
     match (before, after) {
-        (Some(before), Some(after)) => grid.replace(alloc, before, after),
-        _ => grid.share(),
+        (Some(before), Some(after)) => grid.exchange(alloc, before, after),
+        _ => Ok(()),
     }
 }
 
-/// The ports once an edit changed a row.
-pub(crate) fn with_ports(
-    grid: &Grid,
+/// Moves the ports once an edit changed a row.
+pub(crate) fn move_ports(
+    grid: &mut Grid,
     alloc: Global,
     edit: &Edit,
     before: Option<&Row>,
     after: Option<&Row>,
-) -> Result<Grid, AllocError>
-    ensures { IfOk result
-        (HasPorts edit.now (option_copied before.entry) (option_copied after.entry) grid.now) }
+) -> Result<(), AllocError>
+    ensures { OnOk result
+        (HasPorts edit.now (option_copied before.entry) (option_copied after.entry) grid.old grid.new) }
 {
     match edit {
-        Edit::Insert { .. } => with_row(grid, alloc, after),
-        Edit::Delete { .. } => without_row(grid, alloc, before),
-        Edit::Reshape { .. } | Edit::Kind { .. } => with_changed(grid, alloc, before, after),
+        Edit::Insert { .. } => put_row(grid, alloc, after),
+        Edit::Delete { .. } => take_row(grid, alloc, before),
+        Edit::Reshape { .. } | Edit::Kind { .. } => exchange_rows(grid, alloc, before, after),
         Edit::Attrs { .. }
         | Edit::Path { .. }
         | Edit::Flow { .. }
@@ -70,6 +70,6 @@ pub(crate) fn with_ports(
         | Edit::Detach { .. }
         | Edit::Controller { .. }
         | Edit::Uncontroller { .. }
-        | Edit::Rule { .. } => grid.share(),
+        | Edit::Rule { .. } => Ok(()),
     }
 }

@@ -15,7 +15,8 @@ use un_defs::{Node, Port, Row};
 use un_geom::{Point, Rect};
 use un_points::PointMap;
 
-/// The points at which ports stand, each with its ports. A grid never changes: each call that would change it gives a new one.
+/// The points at which ports stand, each with its ports. `insert`, `remove` and `replace` give a new grid, which shares its pages with this
+/// one; `put`, `take` and `exchange` change the grid itself, and none of those that share its pages.
 #[derive(Drop)]
 pub struct Grid {
     points: PointMap<Ports>,
@@ -123,13 +124,38 @@ impl Grid {
         Ok(())
     }
 
+    /// Puts the ports of the row in. Of a grid for which memory ran out only the form is known.
+    pub fn put(&mut self, alloc: Global, row: &Row) -> Result<(), AllocError>
+        ensures { OnOk result (HasRow self.old self.new row.now) }
+    {
+        let nodes = row.nodes(alloc)?;
+        self.put_nodes(alloc, &nodes)
+    }
+
+    /// Takes the ports of the row out. Of a grid for which memory ran out only the form is known.
+    pub fn take(&mut self, alloc: Global, row: &Row) -> Result<(), AllocError>
+        ensures { OnOk result (LacksRow self.old self.new row.now) }
+    {
+        let nodes = row.nodes(alloc)?;
+        self.take_nodes(alloc, &nodes)
+    }
+
+    /// Puts the ports of the second row in the place of those of the first. Of a grid for which memory ran out only the form is known.
+    pub fn exchange(&mut self, alloc: Global, old: &Row, new: &Row) -> Result<(), AllocError>
+        ensures { OnOk result (HasInPlace self.old self.new old.now new.now) }
+    {
+        let gone = old.nodes(alloc)?;
+        let come = new.nodes(alloc)?;
+        self.take_nodes(alloc, &gone)?;
+        self.put_nodes(alloc, &come)
+    }
+
     /// The grid with the ports of the row besides its own.
     pub fn insert(&self, alloc: Global, row: &Row) -> Result<Grid, AllocError>
         ensures { IfOk result (λ g. HasRow self.now g row.now) }
     {
-        let nodes = row.nodes(alloc)?;
         let mut grid = self.share()?;
-        grid.put_nodes(alloc, &nodes)?;
+        grid.put(alloc, row)?;
         Ok(grid)
     }
 
@@ -137,9 +163,8 @@ impl Grid {
     pub fn remove(&self, alloc: Global, row: &Row) -> Result<Grid, AllocError>
         ensures { IfOk result (λ g. LacksRow self.now g row.now) }
     {
-        let nodes = row.nodes(alloc)?;
         let mut grid = self.share()?;
-        grid.take_nodes(alloc, &nodes)?;
+        grid.take(alloc, row)?;
         Ok(grid)
     }
 
@@ -147,11 +172,8 @@ impl Grid {
     pub fn replace(&self, alloc: Global, old: &Row, new: &Row) -> Result<Grid, AllocError>
         ensures { IfOk result (λ g. HasInPlace self.now g old.now new.now) }
     {
-        let gone = old.nodes(alloc)?;
-        let come = new.nodes(alloc)?;
         let mut grid = self.share()?;
-        grid.take_nodes(alloc, &gone)?;
-        grid.put_nodes(alloc, &come)?;
+        grid.exchange(alloc, old, new)?;
         Ok(grid)
     }
 }

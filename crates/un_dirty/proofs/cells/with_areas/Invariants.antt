@@ -9,6 +9,6 @@ invariant-loop-rect l = record {
   few : l.used ≤ 20;
   rising : l.levels ≤ l.used;
   counted : l.number ≡ l.first + l.rect-index;
-  kept : (k : Cell) → (n : ℕ) → is_in k n l.cells ≡ true → is_in k n l.all ≡ true;
+  kept : (k : Cell) → (n : ℕ) → is_in k n l.fn.cells ≡ true → is_in k n l.all ≡ true;
   each : AllByRecursion (IsIndexed l.all l.used) (enumerate_from l.first (take l.rect-index l.rects));
 }

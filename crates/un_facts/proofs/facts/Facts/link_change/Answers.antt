@@ -20,7 +20,7 @@ use Rattle.un_facts.specs.Refusals.{refusal_of}
 use Rattle.un_facts.proofs.Edited.{link_rectangles}
 use Rattle.un_facts.proofs.Linked.{under, rules_aside, link_left}
 use Rattle.un_facts.proofs.Makeable.{made, link_word, link_refused, edited_known}
-use Rattle.un_facts.proofs.facts.Facts.edit_link.Goals as goal
+use Rattle.un_facts.proofs.facts.Facts.link_change.Goals as goal
 
 pub returns-clause-may : goal.returns-clause-may
 returns-clause-may c =
@@ -63,8 +63,8 @@ returns-in_err-assocs-clause-bad c =
     subst (λ (L : Known). refusal_of L e ≡ Some r) c.parts-parts.ensures.value
     (link_refused K e c.requires.word (Some r) (rules_aside (setting S) rows links frame.rules [] e ∙ due)))
 
-pub with_assocs-requires : goal.with_assocs-requires
-with_assocs-requires c =
+pub returns-clause-follows : goal.returns-clause-follows
+returns-clause-follows c =
     let frame = arc_value c.parts-parts.result.now.frame in
     let S = frame.setup in
     let setup_is = c.setup.ensures ∙ ap (λ (f : Framed). f.setup) c.deref.ensures in
@@ -81,22 +81,11 @@ with_assocs-requires c =
     let may = made K ids c.args.moment catalog c.parts-parts.ensures.known.sound e (link_word e c.requires.word) cause in
     let is_made : IsMade (setting S) ids.association (only_rows rows) links e c.in_ok-assocs.assocs =
     subst (λ (C : Setup). IsMade (setting C) ids.association (only_rows rows) links e c.in_ok-assocs.assocs) setup_is c.in_ok-assocs.ensures.links in
-    subst IsKnown (sym (left_is c.links_alone.ensures.links c.args.self.now frame rows links c.in_ok-assocs.assocs c.parts-parts.ensures.value ids c.args.moment e c.requires.word is_made))
-    (subst (λ (L : Known). IsKnown (edited L ids c.args.moment e)) c.parts-parts.ensures.value (edited_known K ids c.args.moment e c.parts-parts.ensures.known new may))
-
-pub returns-clause-features : goal.returns-clause-features
-returns-clause-features c =
-    let frame = arc_value c.parts-parts.result.now.frame in
-    let S = frame.setup in
-    let setup_is = c.setup.ensures ∙ ap (λ (f : Framed). f.setup) c.deref.ensures in
-    let e = c.args.edit.now in
-    let ids = c.args.ids in
-    let rows = c.parts-parts.result.now.rows in
-    let links = c.parts-parts.result.now.assocs in
-    let is_made : IsMade (setting S) ids.association (only_rows rows) links e c.in_ok-assocs.assocs =
-    subst (λ (C : Setup). IsMade (setting C) ids.association (only_rows rows) links e c.in_ok-assocs.assocs) setup_is c.in_ok-assocs.ensures.links in
-    c.in_ok-facts.ensures
-    ∙ left_is c.links_alone.ensures.links c.args.self.now frame rows links c.in_ok-assocs.assocs c.parts-parts.ensures.value ids c.args.moment e c.requires.word is_made
+    let left = left_is c.links_alone.ensures.links c.args.self.now frame rows links c.in_ok-assocs.assocs c.parts-parts.ensures.value ids c.args.moment e c.requires.word is_made in (
+      subst IsKnown (sym left)
+          (subst (λ (L : Known). IsKnown (edited L ids c.args.moment e)) c.parts-parts.ensures.value (edited_known K ids c.args.moment e c.parts-parts.ensures.known new may)),
+      left,
+    )
 
 pub returns-clause-dirtied : goal.returns-clause-dirtied
 returns-clause-dirtied c = c.in_ok-dirtied.ensures ∙ link_rectangles c.args.self.now.features c.args.edit.now c.requires.word
