@@ -34,6 +34,7 @@ pub mod Logs
 pub mod Faithful
 pub mod StepLocality
 pub mod Stepping
+mod InPlace
 pub mod Taken
 pub mod Isolating
 pub mod Crossing

@@ -7,7 +7,7 @@ ghost use Rattle.un_defs.specs.declared.refusal.Refusal.TheVariants as refusal;
 ghost use Rattle.un_ask.specs.declared.request.Command.TheVariants as command;
 ghost use Rattle.un_ask.specs.declared.reply.Reply.TheVariants as reply;
 ghost use Rattle.un_facts.specs.Refusals.{is_of_features};
-ghost use Rattle.un_core.specs.Commands.{is_known, word_of, first_and_count, step};
+ghost use Rattle.un_core.specs.Commands.{is_known, word_of, first_and_count, step, state_after, command_reply};
 ghost use Rattle.un_machine.specs.Logs.{answer_of, Since};
 ghost use Rattle.un_core.specs.Preparing.{IsPreparedAt};
 
@@ -31,16 +31,23 @@ fn first_and_count(first: u64, count: u64) -> [u64; 2]
     if count == 0 { [0, 0] } else { [first, count] }
 }
 
-// A refusal at a version; of a batch also the place of the edit that is refused.
+// The reply of a refusal at a version; of a batch it also tells the place of the edit that is refused.
+fn refusal_reply(version: u64, place: Option<u64>, refusal: Refusal) -> Reply
+    ensures { result ≡ reply.Refused refusal place version }
+{
+    Reply::Refused {
+        refusal,
+        edit: place,
+        version,
+    }
+}
+
+// The same, as what a step gives.
 fn refused(version: u64, place: Option<u64>, refusal: Refusal) -> Applied<Net>
     ensures { answer_of result ≡ inr (reply.Refused refusal place version) }
 {
     Applied::Refused {
-        reply: Reply::Refused {
-            refusal,
-            edit: place,
-            version,
-        },
+        reply: refusal_reply(version, place, refusal),
     }
 }
 
@@ -262,6 +269,56 @@ impl Net {
             Command::Validate { extent } => self.apply_validate(alloc, *extent, hint, since),
             Command::Update { tier, subnet } => self.apply_update(alloc, tier, subnet),
             Command::Rule { rule } => self.apply_rule(alloc, rule),
+        }
+    }
+
+    // The network once an edit is made, with its reply; or the network as it is, with that of a refusal.
+    fn stepped_by_edit(self, alloc: Global, edit: &Edit) -> Result<(Net, Reply), AllocError>
+        requires known { is_of_features edit.now ≡ true }
+        ensures state { IfOk result (λ r. r.0 ≡ state_after self (command.Edit edit.now)) }
+        ensures reply { IfOk result (λ r. r.1 ≡ command_reply self (command.Edit edit.now)) }
+    {
+        let Some(word) = word_of(edit) else {
+            unreachable!()
+        };
+        let version = self.version;
+        if let Err(refusal) = self.check_numbers() {
+            return Ok((self, refusal_reply(version, None, refusal)));
+        }
+        let moment = version + 1;
+        match self.change(alloc, edit, moment) {
+            Ok(change) => {
+                let ids = self.ids;
+                let first = self.dirty.next_number();
+                let Edited { mut net, dirtied } = self.changed(alloc, edit, moment, change)?;
+                net.version = moment;
+                let reply = Reply::Edited {
+                    areas: first_and_count(first, dirtied.len() as u64),
+                    id: reply_id(edit, ids),
+                    word,
+                    version: moment,
+                };
+                Ok((net, reply))
+            }
+            Err(Refusal::Memory) => Err(AllocError),
+            Err(refusal) => Ok((self, refusal_reply(version, None, refusal))),
+        }
+    }
+
+    /// The network once a command is accepted, with the reply; or the network as it is, with the reply of a refusal. What no other network
+    /// shares is changed in place, so that for want of memory no network is left.
+    pub fn stepped(self, alloc: Global, command: &Command) -> Result<(Net, Reply), AllocError>
+        ensures state { IfOk result (λ r. r.0 ≡ state_after self command.now) }
+        ensures reply { IfOk result (λ r. r.1 ≡ command_reply self command.now) }
+    {
+        if let Command::Edit(edit) = command
+            && is_of_features(edit)
+        {
+            return self.stepped_by_edit(alloc, edit);
+        }
+        match self.step(alloc, command)? {
+            Applied::Done { next, reply, .. } => Ok((next, reply)),
+            Applied::Refused { reply } => Ok((self, reply)),
         }
     }
 

@@ -10,7 +10,7 @@ ghost use Rattle.un_core.specs.Cover.{MayAllBeMade};
 ghost use Rattle.un_core.specs.Making.{FeaturesGrow, AssociationsGrow, AreasGrow};
 ghost use Rattle.un_core.specs.Refusals.{Refuses, IsBatchRefusal, beside_numbers, first_refused, batch_refusal};
 
-use crate::edit::{Edited, reply_id, touched_row};
+use crate::edit::{reply_id, touched_row};
 use crate::net::Net;
 use std::alloc::{AllocError, Global};
 use un_defs::{Edit, Refusal};
@@ -58,44 +58,41 @@ fn add(ids: &mut Vec<u64>, id: Option<u64>) -> Result<(), AllocError>
 }
 
 impl Batched {
-    // Makes one edit more at the moment 0. Where it is refused, what is left is of no use.
-    fn make(&mut self, alloc: Global, edit: &Edit) -> Result<(), Refusal>
+    // Makes one edit more at the moment 0.
+    fn make(self, alloc: Global, edit: &Edit) -> Result<Batched, Refusal>
         requires word { is_of_features edit.now ≡ true }
-        requires feature { self.old.net.next_feature < 9_000_000_000_100_000 }
-        requires association { self.old.net.next_association < 9_000_000_000_100_000 }
-        requires area { self.old.net.next_area < 9_000_000_000_100_000 }
-        ensures net { OnOk result (self.new.net ≡ made_at 0 self.old.net edit.now) }
-        ensures ids { OnOk result (self.new.ids.items
-            ≡ self.old.ids.items ++ id_of self.old.net edit.now ∷ []) }
-        ensures touched { OnOk result (self.new.touched.items
-            ≡ self.old.touched.items ++ touched self.old.net edit.now) }
-        ensures dirtied { OnOk result (self.new.dirtied.items
-            ≡ self.old.dirtied.items ++ dirtied self.old.net.features edit.now) }
-        ensures features { OnOk result (FeaturesGrow self.old.net self.new.net) }
-        ensures associations { OnOk result (AssociationsGrow self.old.net self.new.net) }
-        ensures areas { OnOk result (AreasGrow self.old.net self.new.net) }
-        ensures may { OnOk result (MayBeMadeAt 0 self.old.net edit.now) }
-        ensures good { OnOk result (first_refusal (beside_numbers self.old.net edit.now) ≡ None) }
-        ensures bad { Refuses result (first_refusal (beside_numbers self.old.net edit.now)) }
+        requires feature { self.net.next_feature < 9_000_000_000_100_000 }
+        requires association { self.net.next_association < 9_000_000_000_100_000 }
+        requires area { self.net.next_area < 9_000_000_000_100_000 }
+        ensures net { IfOk result (λ b. b.net ≡ made_at 0 self.net edit.now) }
+        ensures ids { IfOk result (λ b. b.ids.items ≡ self.ids.items ++ id_of self.net edit.now ∷ []) }
+        ensures touched { IfOk result (λ b. b.touched.items ≡ self.touched.items ++ touched self.net edit.now) }
+        ensures dirtied { IfOk result (λ b. b.dirtied.items
+            ≡ self.dirtied.items ++ dirtied self.net.features edit.now) }
+        ensures features { IfOk result (λ b. FeaturesGrow self.net b.net) }
+        ensures associations { IfOk result (λ b. AssociationsGrow self.net b.net) }
+        ensures areas { IfOk result (λ b. AreasGrow self.net b.net) }
+        ensures may { OnOk result (MayBeMadeAt 0 self.net edit.now) }
+        ensures good { OnOk result (first_refusal (beside_numbers self.net edit.now) ≡ None) }
+        ensures bad { Refuses result (first_refusal (beside_numbers self.net edit.now)) }
     {
-        let ids = self.net.next_ids();
-        add(&mut self.ids, Some(reply_id(edit, ids)))?;
-        add(&mut self.touched, touched_row(edit, ids))?;
-        let Edited { net, dirtied } = self.net.make(alloc, edit, 0)?;
-        self.net = net;
-        self.dirtied.extend_from_slice(&dirtied)?;
-        Ok(())
+        let mut batched = self;
+        let next = batched.net.next_ids();
+        add(&mut batched.ids, Some(reply_id(edit, next)))?;
+        add(&mut batched.touched, touched_row(edit, next))?;
+        let change = batched.net.change(alloc, edit, 0)?;
+        batched.dirtied.extend_from_slice(&change.dirtied)?;
+        let edited = batched.net.changed(alloc, edit, 0, change)?;
+        Ok(Batched {
+            net: edited.net,
+            ids: batched.ids,
+            touched: batched.touched,
+            dirtied: batched.dirtied,
+        })
     }
 }
 
 impl Net {
-    // The same network, which shares what it holds.
-    fn share(&self) -> Result<Net, AllocError>
-        ensures { IfOk result (λ net. net ≡ self.now) }
-    {
-        self.with_stored(self.stored.share()?, self.version)
-    }
-
     // A batch of no edits.
     fn begun(&self, alloc: Global) -> Result<Batched, AllocError>
         ensures net { IfOk result (λ b. b.net ≡ self.now) }
@@ -130,12 +127,15 @@ impl Net {
     {
         let mut batched = self.begun(alloc)?;
         for (place, edit) in edits.iter().enumerate() {
-            if let Err(refusal) = batched.make(alloc, edit) {
-                return Err(BatchFault {
-                    place: Some(place as u64),
-                    refusal,
-                });
-            }
+            batched = match batched.make(alloc, edit) {
+                Ok(more) => more,
+                Err(refusal) => {
+                    return Err(BatchFault {
+                        place: Some(place as u64),
+                        refusal,
+                    });
+                }
+            };
         }
         Ok(batched)
     }

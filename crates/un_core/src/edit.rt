@@ -1,5 +1,5 @@
 //! Edits of the features.
-ghost use Rattle.std.specs.Prelude.{◌≡◌, ◌<◌, ◌≤◌, ◌+◌, true, length, None, IfOk, OnOk};
+ghost use Rattle.std.specs.Prelude.{◌≡◌, ◌<◌, ◌≤◌, ◌+◌, true, length, Some, None, IfOk, OnOk, IfErr};
 ghost use Rattle.un_defs.specs.Refusing.{first_refusal};
 ghost use Rattle.un_defs.specs.Dirtied.{dirtied};
 ghost use Rattle.un_dirty.specs.Areas.{added};
@@ -7,13 +7,13 @@ ghost use Rattle.un_facts.specs.Refusals.{is_of_features};
 ghost use Rattle.un_core.specs.Step.{MayBeMadeAt, made_at, edited, reply_id, touched_row};
 ghost use Rattle.un_core.specs.Refusals.{Refuses, beside_numbers, edit_refusal, too_many};
 ghost use Rattle.un_core.specs.Cover.{IsState};
-ghost use Rattle.un_core.specs.Making.{AreasGrow, FeaturesGrow, AssociationsGrow, with_parts};
+ghost use Rattle.un_core.specs.Making.{AreasGrow, FeaturesGrow, AssociationsGrow, IsChange, with_parts};
 
 use crate::net::Net;
 use std::alloc::{AllocError, Global};
 use un_defs::{Edit, Limit, Refusal};
 use un_dirty::{Dirty, DirtyFault};
-use un_facts::{Facts, Made, NextIds};
+use un_facts::{Change, Facts, NextIds};
 use un_geom::Rect;
 
 /// The most dirty areas.
@@ -73,6 +73,20 @@ pub(crate) fn touched_row(edit: &Edit, ids: NextIds) -> Option<u64>
     }
 }
 
+// Refuses where there would be too many areas with some more, of these rectangles.
+fn check_room(dirty: &Dirty, rects: &[Rect]) -> Result<(), Refusal>
+    ensures room { OnOk result (length dirty.now.areas + length rects.now ≤ 65536) }
+    ensures good { OnOk result (too_many dirty.now.areas rects.now ≡ None) }
+    ensures bad { IfErr result (λ refusal. too_many dirty.now.areas rects.now ≡ Some refusal) }
+{
+    // For the proof alone.
+    let _len = dirty.len();
+    if rects.len() > MOST_AREAS || !dirty.has_room(rects.len() as u64) {
+        return Err(Refusal::Full { what: Limit::Areas });
+    }
+    Ok(())
+}
+
 /// The areas with some more, of these rectangles.
 pub(crate) fn with_areas(dirty: &Dirty, alloc: Global, rects: &[Rect]) -> Result<Dirty, Refusal>
     requires next { dirty.now.next < 9_000_000_000_100_000 }
@@ -115,6 +129,59 @@ impl Net {
         })
     }
 
+    // What an edit leaves that may be made at a moment. It changes nothing. The numbers are not looked at.
+    pub(crate) fn change(&self, alloc: Global, edit: &Edit, moment: u64) -> Result<Change, Refusal>
+        requires word { is_of_features edit.now ≡ true }
+        requires area { self.now.next_area < 9_000_000_000_100_000 }
+        ensures follows { IfOk result (λ c. IsChange self.now moment edit.now c) }
+        ensures may { OnOk result (MayBeMadeAt moment self.now edit.now) }
+        ensures good { OnOk result (first_refusal (beside_numbers self.now edit.now) ≡ None) }
+        ensures bad { Refuses result (first_refusal (beside_numbers self.now edit.now)) }
+    {
+        let change = self.facts.change(alloc, edit, self.ids, moment)?;
+        check_room(&self.dirty, &change.dirtied)?;
+        Ok(change)
+    }
+
+    // The network with what an edit leaves. What no other network shares is changed in place.
+    pub(crate) fn changed(
+        self,
+        alloc: Global,
+        edit: &Edit,
+        moment: u64,
+        change: Change,
+    ) -> Result<Edited, AllocError>
+        requires feature { self.next_feature < 9_000_000_000_100_000 }
+        requires association { self.next_association < 9_000_000_000_100_000 }
+        requires area { self.next_area < 9_000_000_000_100_000 }
+        requires follows { IsChange self moment edit.now change }
+        requires may { MayBeMadeAt moment self edit.now }
+        ensures state { IfOk result (λ m. m.net ≡ made_at moment self edit.now) }
+        ensures dirtied { IfOk result (λ m. m.dirtied.items ≡ dirtied self.features edit.now) }
+        ensures features { IfOk result (λ m. FeaturesGrow self m.net) }
+        ensures associations { IfOk result (λ m. AssociationsGrow self m.net) }
+        ensures areas { IfOk result (λ m. AreasGrow self m.net) }
+    {
+        let facts = self
+            .facts
+            .changed(alloc, edit, self.ids, moment, change.after)?;
+        let dirty = self.dirty.with(alloc, &change.dirtied)?;
+        // For the proof alone.
+        let _len = dirty.len();
+        let net = Net {
+            facts,
+            kept: self.kept,
+            dirty,
+            stored: self.stored,
+            version: self.version,
+            ids: self.ids.after(edit),
+        };
+        Ok(Edited {
+            net,
+            dirtied: change.dirtied,
+        })
+    }
+
     // The network once an edit is made at a moment. The version stays, and the numbers are not looked at.
     pub(crate) fn make(&self, alloc: Global, edit: &Edit, moment: u64) -> Result<Edited, Refusal>
         requires word { is_of_features edit.now ≡ true }
@@ -130,12 +197,10 @@ impl Net {
         ensures good { OnOk result (first_refusal (beside_numbers self.now edit.now) ≡ None) }
         ensures bad { Refuses result (first_refusal (beside_numbers self.now edit.now)) }
     {
-        let Made { facts, dirtied } = self.facts.edit(alloc, edit, self.ids, moment)?;
-        let dirty = with_areas(&self.dirty, alloc, &dirtied)?;
-        // For the proof alone.
-        let _len = dirty.len();
-        let net = self.with_made(facts, dirty, self.ids.after(edit))?;
-        Ok(Edited { net, dirtied })
+        let change = self.change(alloc, edit, moment)?;
+        let same = self.share()?;
+        let edited = same.changed(alloc, edit, moment, change)?;
+        Ok(edited)
     }
 
     /// The network after an edit of a row, an association or a controller.

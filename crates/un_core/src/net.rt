@@ -18,7 +18,8 @@ use un_tiers::Tiers;
 /// From here on a version, an id or an area's number is none.
 const LAST_NUMBER: u64 = 9_000_000_000_000_000;
 
-/// The state of a network. It never changes: a command that is accepted gives a new one, which shares with it what stays.
+/// The state of a network. `step` leaves it as it is: a command that is accepted gives a new one, which shares with it what stays. `stepped` takes
+/// it, and changes in place what no other network shares.
 #[derive(Drop)]
 pub struct Net {
     pub(crate) facts: Facts,
@@ -61,6 +62,13 @@ impl Net {
                 association: 1,
             },
         })
+    }
+
+    /// The same network, which shares what it holds.
+    pub fn share(&self) -> Result<Net, AllocError>
+        ensures { IfOk result (λ net. net ≡ self.now) }
+    {
+        self.with_stored(self.stored.share()?, self.version)
     }
 
     /// How many commands were accepted.
@@ -108,13 +116,6 @@ impl Net {
         ensures { result ≡ length self.now.features.rules }
     {
         self.facts.schema().rules().len() as u64
-    }
-
-    /// Puts the network that follows in the place of this one.
-    pub fn replace(&mut self, next: Net)
-        ensures { self.new ≡ next }
-    {
-        *self = next;
     }
 
     /// The ids that the next edit gives.

@@ -93,7 +93,7 @@ fn apply(
             mark: _mark,
         } => {
             print_line(&reply, out);
-            net.replace(next);
+            *net = next;
         }
         Applied::Refused { reply } => {
             print_line(&reply, out);

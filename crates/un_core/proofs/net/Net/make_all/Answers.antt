@@ -10,20 +10,20 @@ loop-place-preserved c =
     let es = c.args.edits.now in
     let place = c.loop-place.place in
     let before = c.loop-place.batched in
-    let after = c.make.new.self in
+    let after = c.in-Ok.more in
     let t = before.net in
     let e = c.index-edits-place.result in
     let cut : drop place es ≡ e ∷ drop (place + 1) es = cut_at es place e c.index-edits-place.is c.loop-place-test.true in
     let further = one_more s es place t before.ids.items before.touched.items before.dirtied.items c.loop-place.invariant.under_way e cut after.net (id_of t e)
-    c.in_default.ensures.net refl c.in_default.ensures.may c.in_default.ensures.good in
+    c.in-Ok.ensures.net refl c.in-Ok.ensures.may c.in-Ok.ensures.good in
     record {
-      under_way = subst (IsUnderWay s es (place + 1) after.net after.ids.items after.touched.items) (sym c.in_default.ensures.dirtied)
-          (subst (λ rows. IsUnderWay s es (place + 1) after.net after.ids.items rows (before.dirtied.items ++ dirtied t.features e)) (sym c.in_default.ensures.touched)
-          (subst (λ ids. IsUnderWay s es (place + 1) after.net ids (before.touched.items ++ touched t e) (before.dirtied.items ++ dirtied t.features e)) (sym c.in_default.ensures.ids) further));
-      features = omega (arith, c.in_default.ensures.features, c.loop-place.invariant.features);
-      associations = omega (arith, c.in_default.ensures.associations, c.loop-place.invariant.associations);
-      areas = omega (arith, c.in_default.ensures.areas.given, c.loop-place.invariant.areas);
-      few = c.in_default.ensures.areas.few;
+      under_way = subst (IsUnderWay s es (place + 1) after.net after.ids.items after.touched.items) (sym c.in-Ok.ensures.dirtied)
+          (subst (λ rows. IsUnderWay s es (place + 1) after.net after.ids.items rows (before.dirtied.items ++ dirtied t.features e)) (sym c.in-Ok.ensures.touched)
+          (subst (λ ids. IsUnderWay s es (place + 1) after.net ids (before.touched.items ++ touched t e) (before.dirtied.items ++ dirtied t.features e)) (sym c.in-Ok.ensures.ids) further));
+      features = omega (arith, c.in-Ok.ensures.features, c.loop-place.invariant.features);
+      associations = omega (arith, c.in-Ok.ensures.associations, c.loop-place.invariant.associations);
+      areas = omega (arith, c.in-Ok.ensures.areas.given, c.loop-place.invariant.areas);
+      few = c.in-Ok.ensures.areas.few;
     }
 
 pub returns-in-Err-clause-bad : goal.returns-in-Err-clause-bad
