@@ -19,7 +19,7 @@ pub(crate) fn make_line(alloc: Global, seed: u32, count: u32) -> Result<Vec<u8>,
     ensures { IfOk result (λ line. line.items ≡ made_line seed count) }
 {
     let commands = un_gen::commands(alloc, seed, count)?;
-    let mut net = network::open(alloc)?;
-    let errors = network::apply_all(alloc, &mut net, commands.as_slice())?;
+    let empty = network::open(alloc)?;
+    let (net, errors) = network::apply_all(alloc, empty, commands.as_slice())?;
     line::line_at(alloc, &net, errors)
 }

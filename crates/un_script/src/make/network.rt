@@ -7,8 +7,6 @@ ghost use Rattle.un_script.specs.Made.{built_in_setup, run_of, errors_of};
 use std::alloc::{AllocError, Global};
 use un_ask::{Command, Reply};
 use un_core::Net;
-use un_core::laws::steps_reply;
-use un_machine::Applied;
 use un_schema_json::{SchemaFault, read_schema};
 
 /// The line of the built-in schema.
@@ -25,42 +23,23 @@ pub(crate) fn open(alloc: Global) -> Result<Net, AllocError>
     }
 }
 
-/// Applies commands one after another. Answers the errors that the reply to the last one tells of.
+/// Applies commands one after another. Answers the network after them, and the errors that the reply to the last one tells of.
 pub(crate) fn apply_all(
     alloc: Global,
-    net: &mut Net,
+    net: Net,
     commands: &[Command],
-) -> Result<u64, AllocError>
-    ensures state { OnOk result (net.new ≡ (run_of net.old commands.now).state) }
-    ensures errors { IfOk result
-        (λ errors. errors ≡ errors_of (run_of net.old commands.now).reply) }
+) -> Result<(Net, u64), AllocError>
+    ensures state { IfOk result (λ r. r.0 ≡ (run_of net commands.now).state) }
+    ensures errors { IfOk result (λ r. r.1 ≡ errors_of (run_of net commands.now).reply) }
 {
+    let mut last = net;
     let mut errors = 0;
     for command in commands {
-        errors = apply(alloc, net, command)?;
+        let (next, reply) = last.stepped(alloc, command)?;
+        last = next;
+        errors = errors_of(&reply);
     }
-    Ok(errors)
-}
-
-/// Applies a command. Answers the errors that the reply tells of.
-fn apply(alloc: Global, net: &mut Net, command: &Command) -> Result<u64, AllocError>
-    ensures state { OnOk result (net.new ≡ state_after net.old command.now) }
-    ensures errors { IfOk result
-        (λ errors. errors ≡ errors_of (Some (command_reply net.old command.now))) }
-{
-    // For the proof alone.
-    steps_reply();
-    match net.step(alloc, command)? {
-        Applied::Done {
-            next,
-            reply,
-            mark: _mark,
-        } => {
-            net.replace(next);
-            Ok(errors_of(&reply))
-        }
-        Applied::Refused { reply } => Ok(errors_of(&reply)),
-    }
+    Ok((last, errors))
 }
 
 /// The errors that a reply tells of, if it is one to a validation; else 0.
