@@ -74,7 +74,7 @@ fn connect<R: Net<Stream = TcpStream>>(rt: &R, address: SocketAddr) -> io::Resul
     Ok(link)
 }
 
-/// Whether a link is served while the one before it waits, and whether each sees what the other one made.
+/// Whether a link is served while the one before it waits, and whether it sees what that one made before.
 pub(crate) fn are_served_at_once<
     R: Net<Listener = TcpListener, Stream = TcpStream> + AllocGlobal + Threads + Wait + Sync,
 >(rt: &R) -> io::Result<bool> {
