@@ -2,18 +2,16 @@
 ghost use Rattle.std.specs.Prelude.{◌≡◌, ◌<◌, ◌≤◌, ◌+◌, true, length, Some, None, IfOk, OnOk, IfErr};
 ghost use Rattle.un_defs.specs.Refusing.{first_refusal};
 ghost use Rattle.un_defs.specs.Dirtied.{dirtied};
-ghost use Rattle.un_dirty.specs.Areas.{added};
 ghost use Rattle.un_facts.specs.Refusals.{is_of_features};
 ghost use Rattle.un_core.specs.Step.{MayBeMadeAt, made_at, edited, reply_id, touched_row};
 ghost use Rattle.un_core.specs.Refusals.{Refuses, beside_numbers, edit_refusal, too_many};
-ghost use Rattle.un_core.specs.Cover.{IsState};
-ghost use Rattle.un_core.specs.Making.{AreasGrow, FeaturesGrow, AssociationsGrow, IsChange, with_parts};
+ghost use Rattle.un_core.specs.Making.{AreasGrow, FeaturesGrow, AssociationsGrow, IsChange};
 
 use crate::net::Net;
 use std::alloc::{AllocError, Global};
 use un_defs::{Edit, Limit, Refusal};
-use un_dirty::{Dirty, DirtyFault};
-use un_facts::{Change, Facts, NextIds};
+use un_dirty::Dirty;
+use un_facts::{Change, NextIds};
 use un_geom::Rect;
 
 /// The most dirty areas.
@@ -73,8 +71,8 @@ pub(crate) fn touched_row(edit: &Edit, ids: NextIds) -> Option<u64>
     }
 }
 
-// Refuses where there would be too many areas with some more, of these rectangles.
-fn check_room(dirty: &Dirty, rects: &[Rect]) -> Result<(), Refusal>
+/// Refuses where there would be too many areas with some more, of these rectangles.
+pub(crate) fn check_room(dirty: &Dirty, rects: &[Rect]) -> Result<(), Refusal>
     ensures room { OnOk result (length dirty.now.areas + length rects.now ≤ 65536) }
     ensures good { OnOk result (too_many dirty.now.areas rects.now ≡ None) }
     ensures bad { IfErr result (λ refusal. too_many dirty.now.areas rects.now ≡ Some refusal) }
@@ -87,48 +85,7 @@ fn check_room(dirty: &Dirty, rects: &[Rect]) -> Result<(), Refusal>
     Ok(())
 }
 
-/// The areas with some more, of these rectangles.
-pub(crate) fn with_areas(dirty: &Dirty, alloc: Global, rects: &[Rect]) -> Result<Dirty, Refusal>
-    requires next { dirty.now.next < 9_000_000_000_100_000 }
-    ensures list { IfOk result (λ d. d ≡ added dirty.now rects.now) }
-    ensures good { OnOk result (too_many dirty.now.areas rects.now ≡ None) }
-    ensures bad { Refuses result (too_many dirty.now.areas rects.now) }
-{
-    // For the proof alone.
-    let _len = dirty.len();
-    if rects.len() > MOST_AREAS {
-        return Err(Refusal::Full { what: Limit::Areas });
-    }
-    match dirty.add(alloc, rects) {
-        Ok(dirty) => Ok(dirty),
-        Err(DirtyFault::Full) => Err(Refusal::Full { what: Limit::Areas }),
-        Err(DirtyFault::Memory) => Err(Refusal::Memory),
-    }
-}
-
 impl Net {
-    // The network with what an edit changes in place of its own.
-    pub(crate) fn with_made(
-        &self,
-        facts: Facts,
-        dirty: Dirty,
-        ids: NextIds,
-    ) -> Result<Net, AllocError>
-        requires { IsState (with_parts self.now facts dirty ids) }
-        ensures { IfOk result (λ net. net ≡ with_parts self.now facts dirty ids) }
-    {
-        let kept = self.kept.share()?;
-        let stored = self.stored.share()?;
-        Ok(Net {
-            facts,
-            kept,
-            dirty,
-            stored,
-            version: self.version,
-            ids,
-        })
-    }
-
     // What an edit leaves that may be made at a moment. It changes nothing. The numbers are not looked at.
     pub(crate) fn change(&self, alloc: Global, edit: &Edit, moment: u64) -> Result<Change, Refusal>
         requires word { is_of_features edit.now ≡ true }
@@ -211,7 +168,7 @@ impl Net {
     /// its two ends, and a controller that of its device.
     ///
     /// Each edit is refused by `Full` where the numbers are used up, and by `Full` at last, where it makes areas and there would be more
-    /// than 65,536. Between the two it is refused as `Facts::edit` refuses it.
+    /// than 65,536. Between the two it is refused as `Facts::change` refuses it.
     pub(crate) fn edit(&self, alloc: Global, edit: &Edit) -> Result<Edited, Refusal>
         requires word { is_of_features edit.now ≡ true }
         ensures state { IfOk result (λ m. m.net ≡ edited self.now edit.now) }

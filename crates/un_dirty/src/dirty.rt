@@ -17,7 +17,7 @@ use un_pages::{Memory, Paged};
 /// The most areas that a list has.
 pub const MOST_AREAS: u64 = 65_536;
 
-/// The numbered list of dirty areas. A list never changes: each call that would change it gives a new one.
+/// The numbered list of dirty areas. `with` takes it, and changes in place what no other list shares; no other call changes a list.
 #[derive(Drop)]
 pub struct Dirty {
     areas: Paged<u64, Rect>,

@@ -22,13 +22,6 @@ use un_geom::Rect;
 use un_store::Store;
 use un_tiers::Setup;
 
-/// The features once an edit is made, and the rectangles that it makes dirty.
-#[derive(Drop)]
-pub struct Made {
-    pub facts: Facts,
-    pub dirtied: Vec<Rect>,
-}
-
 /// The rows, or the associations and controllers, that an edit leaves.
 #[derive(Drop)]
 pub enum After {
@@ -212,30 +205,5 @@ impl Facts {
             After::Rows(rows) => self.with_rows(alloc, edit, ids, moment, rows),
             After::Links(assocs) => self.with_links(alloc, assocs),
         }
-    }
-
-    /// The features once an edit is made at a moment, with the rectangles that it makes dirty. These features stay as they are.
-    ///
-    /// It is refused as `change` refuses it.
-    pub fn edit(
-        &self,
-        alloc: Global,
-        edit: &Edit,
-        ids: NextIds,
-        moment: u64,
-    ) -> Result<Made, Refusal>
-        requires word { is_of_features edit.now ≡ true }
-        requires new { AreNew (next_at ids moment) self.now.features }
-        ensures features { IfOk result (λ m. m.facts ≡ edited self.now ids moment edit.now) }
-        ensures dirtied { IfOk result (λ m. m.dirtied.items ≡ dirtied self.now.features edit.now) }
-        ensures may { OnOk result
-            (MayBeMade (setting self.now.setup) (next_at ids moment) self.now.features edit.now) }
-        ensures good { OnOk result (refusal_of self.now edit.now ≡ None) }
-        ensures bad { IfErr result (λ refusal. refusal ≢ Memory
-            → refusal_of self.now edit.now ≡ Some refusal) }
-    {
-        let Change { after, dirtied } = self.change(alloc, edit, ids, moment)?;
-        let facts = self.share()?.changed(alloc, edit, ids, moment, after)?;
-        Ok(Made { facts, dirtied })
     }
 }

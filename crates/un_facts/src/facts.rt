@@ -23,8 +23,8 @@ use un_schema::Schema;
 use un_store::Store;
 use un_tiers::{Setup, Tiers};
 
-/// The schema and the tiers, the rules in force, the rows, the associations and controllers, and which ports stand where. It never changes:
-/// an edit gives new features, which share with these what stays.
+/// The schema and the tiers, the rules in force, the rows, the associations and controllers, and which ports stand where. Features
+/// that share their parts never change: what an edit leaves is put in place of the parts that nobody else shares, or of a copy of them.
 #[derive(Drop)]
 pub struct Facts {
     parts: Arc<Parts>,

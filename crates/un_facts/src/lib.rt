@@ -8,9 +8,9 @@
 //! # How it is found
 //!
 //! [`Facts`] holds a store of rows, one of associations and controllers, and the grid of ports, each an ordered map on shared pages, and all
-//! of them behind one shared pointer, so that equal features are had by counting one owner more. An edit
-//! ([`edit`]) of a row is one of the store of rows; what stands on the row may refuse it, and the ports of the row are put in place of those
-//! that it had ([`standing`], [`ports`]). An edit of an association or of a controller is one of the other store. The rectangles
+//! of them behind one shared pointer, so that equal features are had by counting one owner more. What an
+//! edit leaves is made first, and taken over in place afterwards ([`edit`]). One of a row is made by the store of rows; what stands on the row
+//! may refuse it, and the ports of the row are put in place of those that it had ([`standing`], [`ports`]). An edit of an association or of a controller is one of the other store. The rectangles
 //! ([`rectangles`]) are the envelope of the row before the edit, the one after it, and those of other rows: the partners of a row that moves
 //! or becomes of another kind, and the ends of an association.
 //!
@@ -41,7 +41,8 @@ mod rectangles;
 pub mod rules;
 mod standing;
 
-pub use edit::{After, Change, Made};
+pub use edit::{After, Change};
 pub use facts::Facts;
 pub use ids::NextIds;
 pub use live::Live;
+pub use rules::Ruled;

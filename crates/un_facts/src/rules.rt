@@ -16,7 +16,6 @@ ghost use Rattle.un_facts.specs.Known.{ruled, in_force, with_rules};
 ghost use Rattle.un_facts.specs.Frames.{schema_of, with_rule};
 ghost use Rattle.un_facts.specs.Ruling.{rule_refusal, refusal_by, is_joint_of, is_of_kinds, points_between};
 
-use crate::edit::Made;
 use crate::envelope::envelope;
 use crate::facts::{Facts, Parts};
 use crate::frame::Frame;
@@ -27,6 +26,13 @@ use un_defs::ports::is_joint;
 use un_defs::{Assoc, AssocKind, Limit, Port, Refusal};
 use un_geom::{Point, Rect};
 use un_schema::{Rule, RuleFault};
+
+/// The features once a rule is in force, and the rectangle that covers the points which it may change, if there are any.
+#[derive(Drop)]
+pub struct Ruled {
+    pub facts: Facts,
+    pub dirtied: Vec<Rect>,
+}
 
 // The refusal of a fault.
 fn refusal_of(fault: RuleFault) -> Refusal
@@ -264,7 +270,7 @@ impl Facts {
     /// It is refused, in this order: by `BadRuleTerminal` for the first terminal that its kind has not, with its place in the rule's list; by
     /// `RuleExists` with the least place of an equal rule; by `Full` where 4,096 rules are in force. It answers `Memory` only for want of
     /// memory, and no refusal changes anything.
-    pub fn add_rule(&self, alloc: Global, rule: &Rule) -> Result<Made, Refusal>
+    pub fn add_rule(&self, alloc: Global, rule: &Rule) -> Result<Ruled, Refusal>
         requires { IsTrue (has_classes self.now.setup.schema rule.now) }
         ensures features { IfOk result (λ m. m.facts ≡ ruled self.now rule.now) }
         ensures dirtied { IfOk result (λ m. m.dirtied.items
@@ -276,6 +282,6 @@ impl Facts {
         let frame = with_rule(&self.parts().frame, alloc, rule)?;
         let dirtied = self.rule_rectangles(alloc, rule)?;
         let facts = self.with_frame(alloc, frame)?;
-        Ok(Made { facts, dirtied })
+        Ok(Ruled { facts, dirtied })
     }
 }

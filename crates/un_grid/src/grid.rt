@@ -15,8 +15,8 @@ use un_defs::{Node, Port, Row};
 use un_geom::{Point, Rect};
 use un_points::PointMap;
 
-/// The points at which ports stand, each with its ports. `insert`, `remove` and `replace` give a new grid, which shares its pages with this
-/// one; `put`, `take` and `exchange` change the grid itself, and none of those that share its pages.
+/// The points at which ports stand, each with its ports. `insert` and `remove` give a new grid, which shares its pages with this one;
+/// `put`, `take` and `exchange` change the grid itself, and none of those that share its pages.
 #[derive(Drop)]
 pub struct Grid {
     points: PointMap<Ports>,
@@ -165,15 +165,6 @@ impl Grid {
     {
         let mut grid = self.share()?;
         grid.take(alloc, row)?;
-        Ok(grid)
-    }
-
-    /// The grid with the ports of the second row in place of those of the first.
-    pub fn replace(&self, alloc: Global, old: &Row, new: &Row) -> Result<Grid, AllocError>
-        ensures { IfOk result (λ g. HasInPlace self.now g old.now new.now) }
-    {
-        let mut grid = self.share()?;
-        grid.exchange(alloc, old, new)?;
         Ok(grid)
     }
 }

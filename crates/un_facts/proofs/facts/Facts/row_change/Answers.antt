@@ -6,17 +6,14 @@ use Rattle.un_defs.specs.Dirtied.{dirtied}
 use Rattle.un_defs.specs.Laws.{AreNew, MayBeMade}
 use Rattle.un_store.specs.Edits.{rows_after}
 use Rattle.un_store.specs.Refusals.{refusal_of as row_refusal}
-use Rattle.un_grid.specs.Grids.{IsGridOf}
-use Rattle.un_grid.proofs.Inserting.{inserted}
-use Rattle.un_grid.proofs.Changing.{removed, replaced, stayed}
 use Rattle.un_tiers.specs.declared.setup.Setup.{Setup}
 use Rattle.un_facts.specs.Frames.{Framed}
-use Rattle.un_facts.specs.Known.{Known, known_of, features_of, setting, next_at, edited}
+use Rattle.un_facts.specs.Known.{Known, known_of, setting, next_at}
 use Rattle.un_facts.specs.Changing.{AreRowsAfter}
 use Rattle.un_facts.specs.Refusals.{refusal_of, standing_refusal}
 use Rattle.un_facts.specs.Rectangles.{own_rectangles, other_rectangles}
-use Rattle.un_facts.proofs.Edited.{features_are, all_rectangles_are, grid_after}
-use Rattle.un_facts.proofs.Makeable.{made, row_word, row_good, edited_known}
+use Rattle.un_facts.proofs.Edited.{all_rectangles_are}
+use Rattle.un_facts.proofs.Makeable.{made, row_word, row_good}
 use Rattle.un_facts.proofs.facts.Facts.row_change.Goals as goal
 
 pub returns-clause-good : goal.returns-clause-good

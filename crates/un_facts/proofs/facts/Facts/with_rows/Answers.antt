@@ -1,23 +1,14 @@
-use Rattle.std.proofs.Common.{◌≡◌, ◌++◌, None, sym, ap, ◌∙◌, subst}
+use Rattle.std.proofs.Common.{sym, ap, ◌∙◌, subst}
 use Rattle.std.specs.Arc.{arc_value}
-use Rattle.std.specs.Option.{option_copied}
-use Rattle.un_schema.specs.Sound.{IsCatalog}
-use Rattle.un_defs.specs.Dirtied.{dirtied}
 use Rattle.un_defs.specs.Laws.{AreNew, MayBeMade}
-use Rattle.un_store.specs.Edits.{rows_after}
-use Rattle.un_store.specs.Refusals.{refusal_of as row_refusal}
 use Rattle.un_grid.specs.Grids.{IsGridOf}
 use Rattle.un_grid.proofs.Inserting.{inserted}
 use Rattle.un_grid.proofs.Changing.{removed, replaced, stayed}
-use Rattle.un_tiers.specs.declared.setup.Setup.{Setup}
-use Rattle.un_facts.specs.Frames.{Framed}
-use Rattle.un_facts.specs.Known.{Known, known_of, features_of, setting, next_at, edited}
+use Rattle.un_facts.specs.Known.{Known, known_of, setting, next_at, edited}
 use Rattle.un_facts.specs.Standing.{IsKnown}
 use Rattle.un_facts.specs.Changing.{AreRowsAfter}
-use Rattle.un_facts.specs.Refusals.{refusal_of, standing_refusal}
-use Rattle.un_facts.specs.Rectangles.{own_rectangles, other_rectangles}
-use Rattle.un_facts.proofs.Edited.{features_are, all_rectangles_are, grid_after}
-use Rattle.un_facts.proofs.Makeable.{made, row_word, row_good, edited_known}
+use Rattle.un_facts.proofs.Edited.{features_are, grid_after}
+use Rattle.un_facts.proofs.Makeable.{edited_known}
 use Rattle.un_facts.proofs.facts.Facts.with_rows.Goals as goal
 
 -- the features that the parts are have what holds of those that were given
