@@ -22,7 +22,7 @@ use Rattle.un_core.specs.Preparing.{is_touched}
 use Rattle.un_core.specs.Changes.{is_cleared, may_differ, covers_any, HasChanged, HasRectangles, HasKept}
 use Rattle.un_core.proofs.Elsewhere.{kept_elsewhere}
 use Rattle.un_core.proofs.MarksOf.{any_flat}
-use Rattle.un_core.proofs.Pointed.{put_all, put_old, put_new, sorted_put, sorted_none, or_cases}
+use Rattle.un_rebuild.proofs.Pointed.{put_all, put_old, put_new, sorted_put, sorted_none, or_cases}
 
 -- ---- rectangle by rectangle
 

@@ -17,11 +17,8 @@ pub mod Canonical
 pub mod Nonempty
 pub mod Replaced
 pub mod Grounds
-mod InForce
 pub mod Listed
 pub mod Batching
-pub mod Pointed
-pub mod Rebuilt
 pub mod Applying
 pub mod Accepted
 pub mod Marking

@@ -1,5 +1,5 @@
 -- Which stored subnetworks a validation makes dirty.
-use Rattle.std.proofs.Common.{◌≡◌, ℕ, Bool, true, false, List, [], ◌∷◌, map, refl, sym, ap, subst, ◌∙◌, Contains, inl, inr, if◌then◌else◌}
+use Rattle.std.proofs.Common.{◌≡◌, ℕ, Bool, true, false, List, [], ◌∷◌, map, refl, sym, ap, ◌∙◌, Contains, inl, inr, if◌then◌else◌}
 use Rattle.un_geom.specs.declared.point.Point.{Point}
 use Rattle.un_geom.specs.Rectangle.{Rectangle}
 use Rattle.un_defs.specs.declared.star.Star.{Star}
@@ -90,10 +90,10 @@ module _ (s : State) (is : IsState s) (areas : List (ℕ × Rectangle)) where
   are_marked (row ∷ rows) = (one_marked row, are_marked rows)
 
 -- the stored rows after a validation, by the points that it rebuilds
-pub marks_are : (s : State) → IsState s → (extent : Rectangle) (areas : List (ℕ × Rectangle)) → areas ≡ met extent s.areas → (points : List Point) → ArePoints s areas points
+pub marks_are : (s : State) → IsState s → (extent : Rectangle) (points : List Point) → ArePoints s (met extent s.areas) points
     → (kept : List (Point × Star)) → kept ≡ rebuilt s (met extent s.areas)
     → (rows : List StoredSubnet) → rows ≡ map (marked (changes_at (stars_of s.kept) (stars_of kept) points)) s.stored → rows ≡ (validated s extent).stored
-marks_are s is extent areas same points are kept kept_is rows rows_are =
+marks_are s is extent points are kept kept_is rows rows_are =
     rows_are
     ∙ ap (λ k. map (marked (changes_at (stars_of s.kept) (stars_of k) points)) s.stored) kept_is
-    ∙ same_marks s is (met extent s.areas) points (subst (λ areas. ArePoints s areas points) same are) s.stored
+    ∙ same_marks s is (met extent s.areas) points are s.stored

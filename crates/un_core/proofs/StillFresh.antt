@@ -16,11 +16,12 @@ use Rattle.un_schema.specs.Sound.{IsCatalog}
 use Rattle.un_tiers.specs.declared.setup.Setup.{Setup}
 use Rattle.un_defs.proofs.Locality.{or_both}
 use Rattle.un_machine.specs.Logs.{Leads, Since}
-use Rattle.un_core.specs.State.{State, fresh_star}
+use Rattle.un_core.specs.State.{State, fresh_star, known}
 use Rattle.un_core.specs.Cover.{IsState}
 use Rattle.un_core.specs.Commands.{step}
 use Rattle.un_core.specs.Logs.{LogEntry}
-use Rattle.un_core.specs.Preparing.{AreFresh, IsPreparedAt, is_touched}
+use Rattle.un_rebuild.specs.Preparing.{AreFresh}
+use Rattle.un_core.specs.Preparing.{IsPreparedAt, is_touched}
 use Rattle.un_core.proofs.Accepted.{may_happen, same_setup}
 use Rattle.un_core.proofs.CoverKept.{cover_is_kept}
 use Rattle.un_core.proofs.StepLocality.{steps_are_local}
@@ -55,12 +56,12 @@ found_fresh h since t p given clean = go (get point_cmp h.stars p) (given.1.star
 
 module _ (s : State) (p : Point) (a : Arc Star Global) (m n : BTreeMap Point (Arc Star Global) Global) where
   pub put_fresh : arc_value a ≡ fresh_star s p → ((q : Point) → get point_cmp n q ≡ cond (is_at (point_cmp p) q) (Some a) (get point_cmp m q))
-      → AreFresh s m → AreFresh s n
+      → AreFresh (known s) m → AreFresh (known s) n
   put_fresh is updates fresh q = subst (λ o. IfSome o (λ star. arc_value star ≡ fresh_star s q)) (sym (updates q)) (go (is_at (point_cmp p) q) refl)
     where
       go : (b : Bool) → is_at (point_cmp p) q ≡ b → IfSome (cond b (Some a) (get point_cmp m q)) (λ star. arc_value star ≡ fresh_star s q)
       go true e = is ∙ ap (fresh_star s) (same_is p q (sym (tie_same p q) ∙ e))
       go false e = fresh q
 
-pub none_fresh : (s : State) (m : BTreeMap Point (Arc Star Global) Global) → ((q : Point) → get point_cmp m q ≡ None) → AreFresh s m
+pub none_fresh : (s : State) (m : BTreeMap Point (Arc Star Global) Global) → ((q : Point) → get point_cmp m q ≡ None) → AreFresh (known s) m
 none_fresh s m none q = subst (λ o. IfSome o (λ star. arc_value star ≡ fresh_star s q)) (sym (none q)) tt

@@ -1,33 +1,22 @@
 -- What validating an extent does to the kept topology and to the dirty areas.
-use Rattle.std.specs.Prelude.{◌≡◌, ◌≢◌, ◌⊎◌, ℕ, ◌+◌, All, Contains, IsTrue, if◌then◌else◌, Bool, not, List, ◌++◌, map, filter, length}
-use Rattle.std.specs.declared.cmp.Ordering.{Ordering}
-use Rattle.std.specs.List.{list_any, sum_by}
-use Rattle.std.specs.List.Sorted.{IsStrictlySortedBy}
+pub use Rattle.un_rebuild.specs.Rebuilding.{met, is_under, by_point, IsKept}
+use Rattle.std.specs.Prelude.{ℕ, ◌+◌, not, List, ◌++◌, map, filter, length}
+use Rattle.std.specs.List.{sum_by}
 use Rattle.un_geom.specs.declared.point.Point.{Point}
 use Rattle.un_geom.specs.Rectangle.{Rectangle}
-use Rattle.un_geom.specs.Places.{point_cmp, same_point, covers, meets}
+use Rattle.un_geom.specs.Places.{meets}
 use Rattle.un_defs.specs.declared.star.Star.{Star}
 use Rattle.un_defs.specs.Orders.{rising}
-use Rattle.un_defs.specs.Star.{fresh, empty_star, standing_points}
+use Rattle.un_defs.specs.Star.{fresh, standing_points}
 use Rattle.un_index.specs.Kept.{stars_of}
+use Rattle.un_rebuild.specs.Rebuilding.{ArePoints as ArePointsOf, AreRebuilt as AreRebuiltOf}
 use Rattle.un_subnet.specs.Changes.{Changed, changes_at}
 use Rattle.un_subnet.specs.Stored.{marked}
-use Rattle.un_core.specs.State.{State, fresh_star}
+use Rattle.un_core.specs.State.{State, known}
 
--- the dirty areas that meet the extent, and those that don't
-abbrev pub met : Rectangle → List (ℕ × Rectangle) → List (ℕ × Rectangle)
-met extent areas = filter (λ area. meets area.1 extent) areas
-
+-- the dirty areas that don't meet the extent
 abbrev pub unmet : Rectangle → List (ℕ × Rectangle) → List (ℕ × Rectangle)
 unmet extent areas = filter (λ area. not (meets area.1 extent)) areas
-
--- one of the areas covers the point
-abbrev pub is_under : List (ℕ × Rectangle) → Point → Bool
-is_under areas p = list_any (λ area. covers area.1 p) areas
-
--- stars compare by their points
-abbrev pub by_point : Point × Star → Point × Star → Ordering
-by_point a b = point_cmp a.0 b.0
 
 -- what is kept outside the areas, and the fresh topology under them
 abbrev pub rebuilt : State → List (ℕ × Rectangle) → List (Point × Star)
@@ -61,15 +50,9 @@ abbrev pub errors_under : State → List (ℕ × Rectangle) → ℕ
 errors_under s areas = count_errors (filter (λ pair. is_under areas pair.0) (rebuilt s areas))
 
 -- the points have all that the areas cover and at which something stands or is kept
-pub record ArePoints (s : State) (areas : List (ℕ × Rectangle)) (points : List Point) : Type 0 where
-  pub under : (p : Point) → Contains points p → IsTrue (is_under areas p)
-  pub whole : (p : Point) → IsTrue (is_under areas p) → Contains points p ⊎ ((stars_of s.kept p ≡ empty_star) × (fresh_star s p ≡ empty_star))
+abbrev pub ArePoints : State → List (ℕ × Rectangle) → List Point → Type 0
+ArePoints s areas points = ArePointsOf (known s) s.kept areas points
 
 -- the points have the stars of all features, and the other points what is kept there
 abbrev pub AreRebuilt : State → List Point → List (Point × Star) → Type 0
-AreRebuilt s points kept = (p : Point) → stars_of kept p ≡ (if list_any (same_point p) points then fresh_star s p else stars_of s.kept p)
-
--- a list of points with their stars as it is kept: in order, and without empty stars
-pub record IsKept (kept : List (Point × Star)) : Type 0 where
-  pub sorted : IsStrictlySortedBy by_point kept
-  pub nonempty : All (λ pair. pair.1 ≢ empty_star) kept
+AreRebuilt s points kept = AreRebuiltOf (known s) s.kept points kept

@@ -29,11 +29,11 @@ ghost use Rattle.un_geom.specs.Places.{point_cmp};
 ghost use Rattle.un_core.specs.Changes.{HasChanged, HasRectangles, HasKept};
 
 use crate::net::Net;
-use crate::points::add_all;
 use std::alloc::{AllocError, Global};
 use std::collections::BTreeSet;
 use un_geom::{Point, Rect};
 use un_index::Index;
+use un_rebuild::points::add_all;
 
 // Adds the rectangles of the areas.
 fn add_rects(rects: &mut Vec<Rect>, areas: &[(u64, Rect)]) -> Result<(), AllocError>

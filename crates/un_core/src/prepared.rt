@@ -21,16 +21,14 @@
 //!
 //! At the commit, the rectangles since then are sorted by place once, which costs a part of what the commands that made them did. Each point
 //! takes a look-up among them and one among the prepared stars, which are shared: none is copied.
-ghost use Rattle.std.specs.Prelude.{◌≡◌, map, IfOk, OnOk, IfSome};
-ghost use Rattle.std.specs.Arc.{arc_value};
+ghost use Rattle.std.specs.Prelude.{◌≡◌, map, flat_map, IfOk, OnOk, IfSome};
+ghost use Rattle.un_rebuild.specs.Preparing.{AreFresh, AreUsable};
 ghost use Rattle.un_machine.specs.Logs.{Since};
-ghost use Rattle.un_core.specs.State.{State, fresh_star};
+ghost use Rattle.un_core.specs.State.{State, fresh_star, known};
 ghost use Rattle.un_core.specs.Commands.{step};
-ghost use Rattle.un_core.specs.Preparing.{AreFresh, AreUsable, IsPreparedAt};
+ghost use Rattle.un_core.specs.Preparing.{IsPreparedAt};
 
-use crate::marks::Marks;
 use crate::net::Net;
-use crate::validate::star_at;
 use std::alloc::{AllocError, Global};
 use std::collections::BTreeMap;
 use std::sync::Arc;
@@ -38,6 +36,7 @@ use std::thread::Threads;
 use un_defs::Star;
 use un_geom::{Point, Rect};
 use un_machine::Entry;
+use un_rebuild::{Marks, Usable, points_under};
 use un_validate::stars;
 
 /// Stars that were built in advance for the validation of an extent.
@@ -49,26 +48,6 @@ pub struct Prepared {
     pub(crate) stars: BTreeMap<Point, Arc<Star>>,
 }
 
-/// What was prepared and still holds: the stars at the points that no command since has made dirty.
-#[derive(Drop)]
-pub(crate) struct Usable<'a> {
-    stars: &'a BTreeMap<Point, Arc<Star>>,
-    marks: Marks,
-}
-
-impl<'a> Usable<'a> {
-    /// The star of a point, if it was prepared and still holds.
-    fn star(&self, p: Point) -> Option<&'a Arc<Star>>
-        ensures { (s : State) → AreUsable s self.now → IfSome result (λ star. arc_value star.now ≡ fresh_star s p) }
-    {
-        if self.marks.miss(p) {
-            self.stars.get(&p)
-        } else {
-            None
-        }
-    }
-}
-
 // Puts the star of a point among those of other points.
 fn put_star(
     alloc: Global,
@@ -76,10 +55,21 @@ fn put_star(
     p: Point,
     star: Star,
 ) -> Result<(), AllocError>
-    ensures { OnOk result ((s : State) → star ≡ fresh_star s p → AreFresh s stars.old → AreFresh s stars.new) }
+    ensures { OnOk result ((s : State) → star ≡ fresh_star s p → AreFresh (known s) stars.old → AreFresh (known s) stars.new) }
 {
     stars.insert(p, Arc::new(alloc, star)?)?;
     Ok(())
+}
+
+// The rectangles that the commands made dirty.
+fn rects_of(alloc: Global, since: &[Entry<Net>]) -> Result<Vec<Rect>, AllocError>
+    ensures { IfOk result (λ rects. rects.items ≡ flat_map (λ e. e.mark) since.now) }
+{
+    let mut rects = Vec::new(alloc);
+    for entry in since {
+        rects.extend_from_slice(entry.mark.as_slice())?;
+    }
+    Ok(rects)
 }
 
 impl Net {
@@ -103,7 +93,7 @@ impl Net {
         built: Vec<Star>,
     ) -> Result<BTreeMap<Point, Arc<Star>>, AllocError>
         requires { built.items ≡ map (fresh_star self.now) points.now }
-        ensures { IfOk result (AreFresh self.now) }
+        ensures { IfOk result (AreFresh (known self.now)) }
     {
         let mut stars = BTreeMap::new(alloc);
         for (point, star) in points.iter().zip(built) {
@@ -126,7 +116,7 @@ impl Net {
         // For the proof alone.
         let _rules = self.facts.setup().schema.rules();
         let areas = self.dirty.meeting(alloc, extent)?;
-        let points = self.points_under(alloc, &areas)?;
+        let points = points_under(alloc, &self.facts, &self.kept, &areas)?;
         let built = self.stars_at(rt, alloc, &points)?;
         let stars = self.by_point(alloc, &points, built)?;
         Ok(Prepared {
@@ -144,32 +134,15 @@ impl Net {
         since: &[Entry<Net>],
     ) -> Result<Option<Usable<'a>>, AllocError>
         requires { IfSome hint (λ h. Since step IsPreparedAt h.now since.now self.now) }
-        ensures { IfOk result (λ usable. IfSome usable (AreUsable self.now)) }
+        ensures { IfOk result (λ usable. IfSome usable (AreUsable (known self.now))) }
     {
         let Some(prepared) = hint else {
             return Ok(None);
         };
+        let rects = rects_of(alloc, since)?;
         Ok(Some(Usable {
             stars: &prepared.stars,
-            marks: Marks::of(alloc, since)?,
+            marks: Marks::of(alloc, &rects)?,
         }))
-    }
-
-    /// The star of the features at a point, prepared or built now.
-    pub(crate) fn star_under(
-        &self,
-        alloc: Global,
-        usable: Option<&Usable>,
-        p: Point,
-    ) -> Result<Arc<Star>, AllocError>
-        requires { IfSome usable (λ u. AreUsable self.now u.now) }
-        ensures { IfOk result (λ star. arc_value star ≡ fresh_star self.now p) }
-    {
-        if let Some(usable) = usable
-            && let Some(star) = usable.star(p)
-        {
-            return Arc::try_clone(star);
-        }
-        star_at(alloc, &self.facts, p)
     }
 }

@@ -5,7 +5,7 @@ use Rattle.un_geom.specs.Rectangle.{Rectangle}
 use Rattle.un_points.specs.PointMaps.{covered}
 use Rattle.un_core.specs.Changes.{HasKept}
 use Rattle.un_core.proofs.Collecting.{IsCollected, collected_more, has_kept}
-use Rattle.un_core.proofs.Pointed.{put_all}
+use Rattle.un_rebuild.proofs.Pointed.{put_all}
 use Rattle.un_core.proofs.changes.points_kept.Goals as goal
 
 pub loop-rect-preserved : goal.loop-rect-preserved
