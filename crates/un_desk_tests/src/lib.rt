@@ -5,5 +5,3 @@
 mod counter;
 #[cfg(test)]
 mod memory;
-#[cfg(test)]
-mod threads;
