@@ -35,7 +35,9 @@ use Rattle.un_json.specs.declared.words.CommandWord.{CommandWord}
 use Rattle.un_json.specs.declared.words.CommandWord.TheVariants as does
 use Rattle.un_json.specs.declared.words.QueryWord.{QueryWord}
 use Rattle.un_json.specs.declared.words.QueryWord.TheVariants as asks
-use Rattle.un_json.specs.Rows.{Row, makes, ◌&◌, required, optional, required_when, optional_when, required_member, answers, mapped, and_then}
+use Rattle.un_json.specs.declared.query.RequiredMembers.{RequiredMembers}
+use Rattle.un_json.specs.declared.query.OptionalMembers.{OptionalMembers}
+use Rattle.un_json.specs.Rows.{Row, Column, makes, ◌&◌, required, optional, required_when, optional_when, required_member, answers, mapped, and_then}
 use Rattle.un_json.specs.Words.{word_of}
 use Rattle.un_json.specs.Forms.{kept, id_of, base_of, name_of, some_name_of, weight_of, points_of, attrs_of, flow_of, ends_of, note_of, port_of, terminal_of, list_of, extent_of, rule_of, starts_of, stops_of, nodes_of, labels_of, kind_of, condition_of, some_condition_of, barriers_of, include_of, functions_of, nothing, or_null, point_of, most_of}
 
@@ -149,34 +151,47 @@ takes_include trace.Loops = false
 takes_include trace.Isolation = false
 takes_include _ = true
 
-abbrev pub traced : TraceKind → List Port → Option (List ℕ) → Option (List ℕ) → Option (Condition (List ℕ)) → Option (Condition (List ℕ)) → List Port → Bool → Include → List NamedFunc → ℕ → Query
-traced kind starts tier subnet isolators barriers stops consistent include functions seen = query (asked.Trace (record {
-  kind = kind;
-  starts = starts;
-  tier = tier;
-  subnet = subnet;
-  isolators = isolators;
-  barriers = barriers;
-  stops = stops;
-  consistent = consistent;
-  include = include;
-  functions = functions;
-})) seen
-
--- the members by the type, which is the first of them
-abbrev pub trace_row : TraceKind → Row Query
-trace_row kind =
-    makes traced & required place.Type kind_of
+-- the members that the kind of a trace requires; what it does not take is none
+unfoldable pub required_members : TraceKind → Row RequiredMembers
+required_members kind =
+    makes (λ starts tier subnet isolators. record { starts = starts; tier = tier; subnet = subnet; isolators = isolators })
     & required_when (takes_starts kind) place.Starts starts_of []
     & required_when (takes_tier kind) place.Tier some_name_of None
     & required_when (takes_subnet kind) place.Subnet some_name_of None
     & required_when (takes_isolators kind) place.Isolators some_condition_of None
+
+-- the members of a trace that may be absent, but for `seen`
+unfoldable pub optional_members : TraceKind → Row OptionalMembers
+optional_members kind =
+    makes (λ barriers stops consistent include functions. record { barriers = barriers; stops = stops; consistent = consistent; include = include; functions = functions })
     & optional place.Barriers barriers_of None
     & optional place.Stops stops_of []
     & optional_when (takes_consistent kind) place.Consistent as_bool true
     & optional_when (takes_include kind) place.Include include_of nothing
     & optional_when (takes_include kind) place.Functions functions_of []
-    & optional place.Seen base_of 0
+
+-- the members of a row, as one member of a longer row
+abbrev pub group : {A : Type 0} → Row A → Column A
+group r = record { places = r.places; value = r.value }
+
+abbrev pub traced : TraceKind → RequiredMembers → OptionalMembers → ℕ → Query
+traced kind given options seen = query (asked.Trace (record {
+  kind = kind;
+  starts = given.starts;
+  tier = given.tier;
+  subnet = given.subnet;
+  isolators = given.isolators;
+  barriers = options.barriers;
+  stops = options.stops;
+  consistent = options.consistent;
+  include = options.include;
+  functions = options.functions;
+})) seen
+
+-- the members by the type, which is the first of them
+abbrev pub trace_row : TraceKind → Row Query
+trace_row kind =
+    makes traced & required place.Type kind_of & group (required_members kind) & group (optional_members kind) & optional place.Seen base_of 0
 
 -- ---- paths
 

@@ -4,7 +4,7 @@ ghost use Rattle.serde_json.specs.View.{view};
 ghost use Rattle.un_schema.specs.declared.place.Place.TheVariants as place;
 ghost use Rattle.serde_json.specs.Find.{as_bool};
 ghost use Rattle.un_json.specs.Rows.{Blames, required_member, required_member_when, optional_member_when, answers};
-ghost use Rattle.un_json.specs.Table.{query_answer, trace_row, takes_starts, takes_tier, takes_subnet, takes_isolators, takes_consistent, takes_include};
+ghost use Rattle.un_json.specs.Table.{query_answer, trace_row, required_members, optional_members, takes_starts, takes_tier, takes_subnet, takes_isolators, takes_consistent, takes_include};
 ghost use Rattle.un_json.specs.Forms.{kind_of, starts_of, some_name_of, some_condition_of, include_of, functions_of, nothing};
 ghost use Rattle.un_json.specs.declared.words.QueryWord.TheVariants as asks;
 
@@ -104,32 +104,88 @@ fn read_trace_of(alloc: Global, kind: TraceKind, object: &Value) -> Result<Query
     ensures ok { IfOk result (λ query. answers place.Ask (trace_row kind) (view object.now) ≡ Ok query) }
     ensures err { IfErr result (λ e. Blames e (answers place.Ask (trace_row kind) (view object.now))) }
 {
+    let given = read_required_members(alloc, kind, object)?;
+    let options = read_optional_members(alloc, kind, object)?;
+    let seen = optional::<Base>(alloc, object, Place::Seen, 0)?;
+    no_others(object, members_of(kind))?;
+    let trace = TraceAsk {
+        kind,
+        starts: given.starts,
+        tier: given.tier,
+        subnet: given.subnet,
+        isolators: given.isolators,
+        barriers: options.barriers,
+        stops: options.stops,
+        consistent: options.consistent,
+        include: options.include,
+        functions: options.functions,
+    };
+    Ok(Query {
+        seen,
+        what: Asked::Trace(trace),
+    })
+}
+
+/// The members that the kind of a trace requires. What the kind does not take is none.
+#[derive(Drop)]
+pub(crate) struct RequiredMembers {
+    starts: Ports,
+    tier: Option<Name>,
+    subnet: Option<Name>,
+    isolators: Option<RawCondition>,
+}
+
+#[tactic(auto, unfolding(crate::specs::Table::required_members))]
+fn read_required_members(
+    alloc: Global,
+    kind: TraceKind,
+    object: &Value,
+) -> Result<RequiredMembers, ReadFault>
+    ensures ok { IfOk result (λ members. (required_members kind).value (view object.now) ≡ Ok members) }
+    ensures err { IfErr result (λ e. Blames e ((required_members kind).value (view object.now))) }
+{
     let starts = read_starts(alloc, kind, object)?;
     let tier = read_tier(alloc, kind, object)?;
     let subnet = read_subnet_of(alloc, kind, object)?;
     let isolators = read_isolators(alloc, kind, object)?;
+    Ok(RequiredMembers {
+        starts,
+        tier,
+        subnet,
+        isolators,
+    })
+}
+
+/// The members of a trace that may be absent, except for `seen`.
+#[derive(Drop)]
+pub(crate) struct OptionalMembers {
+    barriers: Option<RawCondition>,
+    stops: Ports,
+    consistent: bool,
+    include: Include,
+    functions: NamedFuncs,
+}
+
+#[tactic(auto, unfolding(crate::specs::Table::optional_members))]
+fn read_optional_members(
+    alloc: Global,
+    kind: TraceKind,
+    object: &Value,
+) -> Result<OptionalMembers, ReadFault>
+    ensures ok { IfOk result (λ members. (optional_members kind).value (view object.now) ≡ Ok members) }
+    ensures err { IfErr result (λ e. Blames e ((optional_members kind).value (view object.now))) }
+{
     let barriers = optional::<Barrier>(alloc, object, Place::Barriers, None)?;
     let stops = optional::<Stops>(alloc, object, Place::Stops, no_ports(alloc))?;
     let consistent = read_consistent(alloc, kind, object)?;
     let include = read_include(alloc, kind, object)?;
     let functions = read_functions(alloc, kind, object)?;
-    let seen = optional::<Base>(alloc, object, Place::Seen, 0)?;
-    no_others(object, members_of(kind))?;
-    let trace = TraceAsk {
-        kind,
-        starts,
-        tier,
-        subnet,
-        isolators,
+    Ok(OptionalMembers {
         barriers,
         stops,
         consistent,
         include,
         functions,
-    };
-    Ok(Query {
-        seen,
-        what: Asked::Trace(trace),
     })
 }
 
@@ -299,6 +355,7 @@ const MEMBERS_OF_ISOLATION: [Place; 8] = [
 ];
 
 /// The names of the members of a trace of a kind.
+#[tactic(auto, unfolding(crate::specs::Table::required_members, crate::specs::Table::optional_members))]
 fn members_of(kind: TraceKind) -> &'static [Place]
     ensures { result.now ≡ place.Ask ∷ (trace_row kind).places }
 {

@@ -7,6 +7,7 @@ use Rattle.un_ask.specs.declared.request.Request.TheVariants as request
 use Rattle.un_ask.specs.declared.request.Command.TheVariants.{Validate}
 use Rattle.un_ask.specs.declared.trace.TraceKind.TheVariants.{Connected, Loops}
 use Rattle.un_json.specs.Rows.{required_member, optional_member, required_member_when, optional_member_when, no_others, is_named}
+use Rattle.un_json.specs.Table.{required_members, optional_members}
 use Rattle.un_json.specs.Requests.{ask}
 use Rattle.un_gen.specs.Generator.{joint_at, pipe_between, whole}
 use Rattle.un_script.specs.Made.{trace_of}
@@ -24,9 +25,9 @@ unfolding is_utf8 chars serde_json_on_literals required_member optional_member n
 validate_request = refl
 
 connected_request : ask (codes "{\"ask\":\"trace\",\"type\":\"connected\",\"starts\":[[1,1]]}") ≡ Ok (request.Query (trace_of Connected))
-unfolding is_utf8 chars serde_json_on_literals required_member optional_member required_member_when optional_member_when no_others is_named trace_of
+unfolding is_utf8 chars serde_json_on_literals required_member optional_member required_member_when optional_member_when no_others is_named required_members optional_members trace_of
 connected_request = refl
 
 loops_request : ask (codes "{\"ask\":\"trace\",\"type\":\"loops\",\"starts\":[[1,1]]}") ≡ Ok (request.Query (trace_of Loops))
-unfolding is_utf8 chars serde_json_on_literals required_member optional_member required_member_when optional_member_when no_others is_named trace_of
+unfolding is_utf8 chars serde_json_on_literals required_member optional_member required_member_when optional_member_when no_others is_named required_members optional_members trace_of
 loops_request = refl
