@@ -74,6 +74,39 @@ fn connect<R: Net<Stream = TcpStream>>(rt: &R, address: SocketAddr) -> io::Resul
     Ok(link)
 }
 
+// The line that opens a server.
+fn schema(alloc: Global) -> io::Result<SureSource> {
+    Ok(SureSource::new(b"{\"schema\":0}\n".to_vec(alloc)?))
+}
+
+// A port of the loopback, and a door there that gives so many links.
+fn listen<R: Net<Listener = TcpListener, Stream = TcpStream>>(
+    rt: &R,
+    links: u32,
+    last: Last,
+) -> io::Result<(SocketAddr, ShortDoor)> {
+    let listener = TcpListener::bind(rt, SocketAddr::from((Ipv4Addr::LOCALHOST, 0)))?;
+    let address = listener.local_addr()?;
+    Ok((address, ShortDoor::new(TcpDoor::new(listener), links, last)))
+}
+
+// Two links to the server.
+fn connect_both<R: Net<Stream = TcpStream>>(
+    rt: &R,
+    address: SocketAddr,
+) -> io::Result<(TcpStream, TcpStream)> {
+    let first = connect(rt, address)?;
+    Ok((first, connect(rt, address)?))
+}
+
+// A link whose one request is sent, and which sends no more.
+fn asking<R: Net<Stream = TcpStream>>(rt: &R, address: SocketAddr) -> io::Result<TcpStream> {
+    let mut link = connect(rt, address)?;
+    link.write_all(VERSION)?;
+    link.shutdown(Shutdown::Write)?;
+    Ok(link)
+}
+
 /// Whether a link is served while the one before it waits, and whether it sees what that one made before.
 pub(crate) fn are_served_at_once<
     R: Net<Listener = TcpListener, Stream = TcpStream> + AllocGlobal + Threads + Wait + Sync,
@@ -81,12 +114,9 @@ pub(crate) fn are_served_at_once<
     let alloc = rt.alloc();
     // The port is of no use: the door is there.
     let words = words_of(alloc, "serve 1 2")?;
-    let mut schema = SureSource::new(b"{\"schema\":0}\n".to_vec(alloc)?);
-    let listener = TcpListener::bind(rt, SocketAddr::from((Ipv4Addr::LOCALHOST, 0)))?;
-    let address = listener.local_addr()?;
-    let mut door = ShortDoor::new(TcpDoor::new(listener), 2, Last::Closed);
-    let first = connect(rt, address)?;
-    let second = connect(rt, address)?;
+    let mut schema = schema(alloc)?;
+    let (address, mut door) = listen(rt, 2, Last::Closed)?;
+    let (first, second) = connect_both(rt, address)?;
     let (status, talked) = join(
         rt,
         || run_serve(rt, alloc, &words, &mut schema, &mut door),
@@ -101,12 +131,9 @@ pub(crate) fn is_served_before_the_door_fails<
 >(rt: &R) -> io::Result<bool> {
     let alloc = rt.alloc();
     let words = words_of(alloc, "serve 1 1")?;
-    let mut schema = SureSource::new(b"{\"schema\":0}\n".to_vec(alloc)?);
-    let listener = TcpListener::bind(rt, SocketAddr::from((Ipv4Addr::LOCALHOST, 0)))?;
-    let mut client = connect(rt, listener.local_addr()?)?;
-    let mut door = ShortDoor::new(TcpDoor::new(listener), 1, Last::Failed);
-    client.write_all(VERSION)?;
-    client.shutdown(Shutdown::Write)?;
+    let mut schema = schema(alloc)?;
+    let (address, mut door) = listen(rt, 1, Last::Failed)?;
+    let client = asking(rt, address)?;
     let status = run_serve(rt, alloc, &words, &mut schema, &mut door);
     let text = io::read_to_string(alloc, client)?;
     Ok(status == 5 && text.as_bytes() == VERSION_0)
