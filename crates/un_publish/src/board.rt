@@ -18,7 +18,7 @@ ghost use Rattle.un_publish.specs.Models.{AreFresh, BoardModel, LeadsToStaged, r
 use crate::prefix::{LogLength, NewLog, Prefix};
 use crate::published::{BoardName, BoardRule, Known, Looks, Notes, Published, Snapshot};
 use crate::publisher::{
-    Publisher, informed_reader, informed_reader_at_last, publish_whole, publish_whole_in,
+    Publisher, informed_reader, informed_reader_at_last, publish_or_end, publish_whole_in,
 };
 use crate::session::{Denied, Session, sessions_at};
 use std::alloc::{AllocError, Global};
@@ -70,21 +70,17 @@ where
     requires log { first.1 ≡ [] }
     ensures { IfOk result (λ w. (w.desk.shown.value ≡ first) × ((view w.desk.place).seen ≡ first.1)) }
 {
-    let (Ok(second), Ok(third)) = (first.copy(), first.copy()) else {
+    let Ok(next) = first.copy() else {
+        return Err(AllocError);
+    };
+    let Ok(second) = first.copy() else {
         return Err(AllocError);
     };
     let Ok(writer) = BoardPublisher::<M, J>::new(alloc, first, second, readers) else {
         return Err(AllocError);
     };
     // The writer's list gets its final size here, so that no later publishing has to grow it after the log has grown.
-    let (writer, grown) = publish_whole::<Published<M, J>, Known<M>, BoardRule, Looks, R>(
-        writer, rt, third,
-    );
-    if grown.is_err() {
-        drop(writer.take(rt));
-        return Err(AllocError);
-    }
-    Ok(writer)
+    publish_or_end::<Published<M, J>, Known<M>, BoardRule, Looks, R>(writer, rt, next)
 }
 
 impl<M: Machine, J: BoardName<M>> Board<M, J>
@@ -153,6 +149,22 @@ where
         Arc::try_clone(state).map_err(|_| AllocError)
     }
 
+    // Adds the entry to the log, and pairs the staged state with the log. On an error nothing was added.
+    fn advance(&self, entry: &Entry<M>) -> Result<Published<M, J>, AllocError>
+        requires number { entry.now.n ≡ length (entries_of entry.now.session self.now.log) + 1 }
+        requires steps { LeadsToStaged M.step self.now entry.now }
+        ensures log { IfOk result (λ next. next.1 ≡ self.now.log ++ entry.now ∷ []) }
+        ensures state { IfOk result (λ next. Some next.0 ≡ self.now.staged) }
+    {
+        let state = self.staged()?;
+        let mut prefix = self.prefix.copy();
+        if prefix.add(&self.length, entry) {
+            Ok(Published::new(state, prefix))
+        } else {
+            Err(AllocError)
+        }
+    }
+
     /// Adds the entry to the log and publishes the staged state, to which the entry leads. It waits for readers.
     pub fn publish<R: Wait>(&mut self, rt: &R, entry: &Entry<M>) -> Result<(), AllocError>
         requires number { entry.now.n ≡ length (entries_of entry.now.session self.old.log) + 1 }
@@ -162,14 +174,8 @@ where
         ensures staged { OnOk result (self.new.staged ≡ None) }
         ensures memory { OnErr result (self.new ≡ self.old) }
     {
-        let Ok(state) = self.staged() else {
-            return Err(AllocError);
-        };
-        let mut prefix = self.prefix.copy();
-        if !prefix.add(&self.length, entry) {
-            return Err(AllocError);
-        }
-        let next = Published::new(state, prefix.copy());
+        let next = self.advance(entry)?;
+        let prefix = next.prefix();
         publish_whole_in::<Published<M, J>, Known<M>, BoardRule, Looks, R>(
             &mut self.writer,
             rt,

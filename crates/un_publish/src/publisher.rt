@@ -4,7 +4,7 @@
 //! whole new value, so the last one counts, and once it is published readers find exactly the value handed over.
 //! To tell a reader what the writer has seen, a new place is made for that reader: a place that was just made is known
 //! to belong to this writer, while one that has been used is not.
-ghost use Rattle.std.specs.Prelude.{◌≡◌, IfSome, IfNone, MatchResult};
+ghost use Rattle.std.specs.Prelude.{◌≡◌, IfOk, IfSome, IfNone, MatchResult};
 ghost use Rattle.left_right.specs.Sides.{view};
 ghost use Rattle.left_right.specs.Register.{Admits};
 ghost use Rattle.un_publish.specs.Places.{MayShow, MayTell, MayLearn};
@@ -43,7 +43,25 @@ pub(crate) fn publish_whole<T: Snapshot, V, P: Protocol<T, V>, L: Outcome<T, V>,
     }
 }
 
-// The same in place.
+// Publishes `next`, and ends the writer on an error. It waits for readers.
+pub(crate) fn publish_or_end<T: Snapshot, V, P: Protocol<T, V>, L: Outcome<T, V>, R: Wait>(
+    writer: Publisher<T, V, P>,
+    rt: &R,
+    next: T,
+) -> Result<Publisher<T, V, P>, AllocError>
+    requires { MayShow P.holds writer.desk.place writer.desk.shown.value next L.then }
+    ensures { IfOk result (λ w. (w.desk.shown.value ≡ next)
+        × L.then (view writer.desk.place) writer.desk.shown.value next (view w.desk.place)) }
+{
+    let (writer, published) = publish_whole::<T, V, P, L, R>(writer, rt, next);
+    if published.is_err() {
+        drop(writer.take(rt));
+        return Err(AllocError);
+    }
+    Ok(writer)
+}
+
+// The same as `publish_whole`, in place.
 pub(crate) fn publish_whole_in<T: Snapshot, V, P: Protocol<T, V>, L: Outcome<T, V>, R: Wait>(
     writer: &mut Publisher<T, V, P>,
     rt: &R,

@@ -6,7 +6,7 @@
 //! that prefix as what it has seen. By the rule of the board the next read finds a log that begins with it.
 //!
 //! A read takes a few atomic operations and copies no state.
-ghost use Rattle.std.specs.Prelude.{◌≡◌, ◌+◌, ◌≤◌, ◌<◌, ◌^◌, [], length, IfOk, IfErr, OnOk, MatchOption};
+ghost use Rattle.std.specs.Prelude.{◌≡◌, ◌+◌, ◌≤◌, ◌<◌, ◌^◌, [], length, IfOk, IfErr, OnOk, MatchBool, MatchOption};
 ghost use mathlib.Core.List.{IsPrefix};
 ghost use Rattle.std.specs.Arc.{arc_value};
 ghost use Rattle.left_right.specs.Sides.{view};
@@ -232,6 +232,24 @@ impl<M: Machine, J: BoardName<M>> Session<M, J> {
         }
     }
 
+    // Enters with another reader, and keeps what it finds, unless the session has seen more. Returns whether there was
+    // a copy to enter.
+    fn enter_with(&mut self, mut reader: BoardReader<M, J>) -> bool
+        ensures entered { MatchBool result (IsPrefix (view reader.place).told self.new.seen)
+            (self.new ≡ self.old) }
+        ensures seen { IsPrefix self.old.seen self.new.seen }
+        ensures kept { self.new ≡ record self.old { seen = self.new.seen } }
+    {
+        let Some(Found { prefix, state: _ }) = enter_in(&mut reader) else {
+            return false;
+        };
+        if self.prefix.begins(&prefix) {
+            self.reader = reader;
+            self.prefix = prefix;
+        }
+        true
+    }
+
     // Enters with a new reader that was told the whole log.
     pub(crate) fn learn_log(
         &mut self,
@@ -243,21 +261,10 @@ impl<M: Machine, J: BoardName<M>> Session<M, J> {
         ensures ok { OnOk result (self.new ≡ record self.old { seen = log.now }) }
         ensures denied { IfErr result (IsTeachFault log.now self.old self.new) }
     {
-        let (reader, found) = enter(reader);
-        let Some(found) = found else {
+        if !self.enter_with(reader) {
             self.count_denied();
             return Err(Denied::NoCopy);
-        };
-        let Found {
-            prefix: published,
-            state: _,
-        } = found;
-        if !self.prefix.begins(&published) {
-            // The session keeps the longer prefix, and the reader that finds no less.
-            return Err(self.denied_as_long(log));
         }
-        self.reader = reader;
-        self.prefix = published;
         if self.seen() > log.len() {
             return Err(self.denied_as_long(log));
         }
