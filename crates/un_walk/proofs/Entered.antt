@@ -72,11 +72,11 @@ node_alike n m = λ i. ordering_then
     (ordering_then (int_cmp n.at.x m.at.x) (ordering_then (int_cmp n.at.y m.at.y) (at_end (int_cmp n.at.z m.at.z) i)))
 
 -- sorted by their nodes, the nodes are sorted
-pub sorted_nodes : (cmp : Node → Node → Ordering) (xs : List Seen) → IsSortedByKey node_of cmp xs → IsSorted cmp (nodes_of xs)
-sorted_nodes cmp xs sorted k d low high =
+pub sorted_nodes : (xs : List Seen) → IsSortedByKey node_of node_cmp xs → IsSorted node_cmp (nodes_of xs)
+sorted_nodes xs sorted k d low high =
     let e : Seen = record { node = d; spot = None } in
     let within : k + 1 < length xs = omega (arith, high, length-map xs node_of) in
-    (λ i. is_lt (cmp (get_or-map node_of xs (k + 1) e d within i) (get_or-map node_of xs k e d (omega (arith, within)) i))) ∙ sorted k e low within
+    (λ i. is_lt (node_cmp (get_or-map node_of xs (k + 1) e d within i) (get_or-map node_of xs k e d (omega (arith, within)) i))) ∙ sorted k e low within
 
 -- the entry tells what the ground tells of it
 pub barrier_by : (G : Ground) (B : Barriers) (s : Seen) → spot_of s ≡ entry G s.node → is_barrier_by B s ≡ is_barrier G B s.node

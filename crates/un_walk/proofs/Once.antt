@@ -34,19 +34,17 @@ turned_less Greater Less e f g = absurd (true≢false f)
 turned_less Greater Equal e f g = absurd (let h : Greater ≡ Equal = e in cc)
 turned_less Greater Greater e f g = let h : Greater ≡ Less = e in absurd (cc)
 
--- distinct nodes, sorted by an order that compares as nodes do, rise
-pub rises : (cmp : Node → Node → Ordering) → ((n m : Node) → cmp n m ≡ node_cmp n m) → (xs ys : List Node)
-    → IsDistinct same_node xs → IsPermutation xs ys → IsSorted cmp ys → IsStrictlySortedBy node_cmp ys
+-- distinct nodes that are sorted rise
+pub rises : (xs ys : List Node) → IsDistinct same_node xs → IsPermutation xs ys → IsSorted node_cmp ys → IsStrictlySortedBy node_cmp ys
 unfolding IsStrictlySortedBy
-rises cmp is xs ys distinct moved sorted = go ys (IsDistinct-IsPermutation same_node same_node_turns xs ys moved distinct) sorted
+rises xs ys distinct moved sorted = go ys (IsDistinct-IsPermutation same_node same_node_turns xs ys moved distinct) sorted
   where
-    go : (ys : List Node) → IsDistinct same_node ys → IsSorted cmp ys → IsStrictlySortedBy node_cmp ys
+    go : (ys : List Node) → IsDistinct same_node ys → IsSorted node_cmp ys → IsStrictlySortedBy node_cmp ys
     go [] distinct sorted = tt
     go (y ∷ ys) distinct sorted =
         sorted_from_all_adjacent node_total (y ∷ ys) y (λ k in_range.
         let a = get_or (y ∷ ys) k y in
         let b = get_or (y ∷ ys) (k + 1) y in
-        turned_less (node_cmp a b) (node_cmp b a) (node_total.antisymm a b)
-        (ap is_lt (sym (is b a)) ∙ sorted k y (omega arith) in_range)
+        turned_less (node_cmp a b) (node_cmp b a) (node_total.antisymm a b) (sorted k y (omega arith) in_range)
         (λ e. true≢false (sym (node_itself a) ∙ ap (same_node a) (node_ties a b e)
         ∙ apart_from_distinct same_node (y ∷ ys) k (k + 1) y distinct (omega arith) in_range)))

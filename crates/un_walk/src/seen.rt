@@ -1,7 +1,9 @@
 //! Reached nodes with their entries.
 
 ghost use Rattle.std.specs.Prelude.{◌≡◌};
-ghost use Rattle.un_walk.specs.Seen.{is_barrier_by};
+ghost use Rattle.std.specs.List.Sorted.{IsPermutation, IsSorted};
+ghost use Rattle.un_defs.specs.Orders.{node_cmp};
+ghost use Rattle.un_walk.specs.Seen.{nodes_of, is_barrier_by};
 
 use un_defs::{Barriers, Node, Spot};
 
@@ -22,4 +24,12 @@ impl Seen<'_> {
             _ => barriers.stop_at(self.node.port),
         }
     }
+}
+
+/// Sorts by node. The nodes are compared where they stand, since a sort by key copies two of them for each comparison.
+pub(crate) fn sort_by_node(seen: &mut Vec<Seen>)
+    ensures permutation { IsPermutation seen.old.items seen.new.items }
+    ensures sorted { IsSorted node_cmp (nodes_of seen.new.items) }
+{
+    seen.sort_unstable_by(|a, b| a.node.cmp(&b.node));
 }

@@ -12,7 +12,7 @@ ghost use Rattle.un_walk.specs.Ticks.{IsLookedUpOnce};
 
 use crate::dirt::dirt_after;
 use crate::found::Found;
-use crate::seen::Seen;
+use crate::seen::{Seen, sort_by_node};
 use crate::site::{Site, Sites};
 use crate::traversal::{Place, follow};
 use std::alloc::{AllocError, Global};
@@ -158,7 +158,7 @@ pub fn reach_seen<'a, G: Ground, L>(
         seen.push(one)?;
         next += 1;
     }
-    seen.sort_unstable_by_key(|one| one.node);
+    sort_by_node(&mut seen);
     Ok(ReachedSeen { seen, dirt: least })
 }
 

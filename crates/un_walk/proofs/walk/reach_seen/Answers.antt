@@ -1,9 +1,8 @@
-use Rattle.std.proofs.Common.{rules, ◌≡◌, suc, List, [], ◌∷◌, ◌++◌, length, take, take_all, length-append, add-one, IsPermutation, IsSorted, Option, refl, sym, ap, subst, subst₂, ◌∙◌, arith}
+use Rattle.std.proofs.Common.{◌≡◌, suc, List, [], ◌∷◌, ◌++◌, length, take, take_all, length-append, add-one, IsPermutation, Option, refl, sym, ap, subst, subst₂, ◌∙◌, arith}
 use Rattle.std.proofs.lemmas.List.{length-map}
-use Rattle.std.proofs.lemmas.List.Sorted.{Contains-permutation, IsPermutation-sym, IsPermutation-map, length_permutation, answers_always}
+use Rattle.std.proofs.lemmas.List.Sorted.{Contains-permutation, IsPermutation-sym, IsPermutation-map, length_permutation}
 use Rattle.std.specs.List.{IsDistinct}
 use Rattle.std.specs.Option.{option_copied}
-use Rattle.un_defs.specs.contracts.port.NodeOrd.TheImpl as order
 use Rattle.un_defs.specs.declared.port.Node.{Node}
 use Rattle.un_defs.specs.Orders.{same_node}
 use Rattle.un_defs.specs.Ground.{Ground, entry, least_area_at}
@@ -16,7 +15,7 @@ use Rattle.un_walk.specs.Entries.{entry_in}
 use Rattle.un_walk.specs.Site.{star_of, IsSite}
 use Rattle.un_walk.specs.Growth.{Grows}
 use Rattle.un_walk.specs.Seen.{node_of, nodes_of, HaveEntries}
-use Rattle.un_walk.proofs.Entered.{node_alike, moved_entries, sorted_nodes, nodes_end, entries_end}
+use Rattle.un_walk.proofs.Entered.{moved_entries, nodes_end, entries_end}
 use Rattle.un_walk.proofs.Once.{rises}
 use Rattle.un_walk.proofs.Walked.{Walked, take_at, walked_start, walked_step, walked_end}
 use Rattle.un_walk.proofs.DirtMet.{IsDirtOf, dirt_none, dirt_step, dirt_moved, dirt_is}
@@ -80,31 +79,29 @@ loop-next-preserved g c =
 pub returns-clause-nodes : goal.returns-clause-nodes
 returns-clause-nodes g c =
     let X : List Seen = c.loop-next.seen.items in
-    let Y : List Seen = c.sort_unstable_by_key.new.self.items in
+    let Y : List Seen = c.sort_by_node.new.seen.items in
     let all : nodes_of X ≡ c.loop-next.found =
     c.loop-next.invariant.nodes ∙ take_all c.loop-next.next c.loop-next.found (omega (arith, c.loop-next-test.false, c.len.ensures.len)) in
-    let moved : IsPermutation (nodes_of X) (nodes_of Y) = IsPermutation-map node_of X Y c.sort_unstable_by_key.ensures.permutation in
-    let sorted : IsSorted order.ghosts.cmp (nodes_of Y) =
-    sorted_nodes order.ghosts.cmp Y (c.sort_unstable_by_key.ensures.sorted node_of (answers_always _ _ _ (λ f a r h called. search rules))) in
+    let moved : IsPermutation (nodes_of X) (nodes_of Y) = IsPermutation-map node_of X Y c.sort_by_node.ensures.permutation in
     walked_end _ c.args.starts.now c.loop-next.found (nodes_of Y) c.loop-next.next c.loop-next.invariant.walked (omega (arith, c.loop-next-test.false, c.len.ensures.len))
     (subst (λ ns. IsPermutation ns (nodes_of Y)) all moved)
-    (rises order.ghosts.cmp node_alike (nodes_of X) (nodes_of Y) (subst (IsDistinct same_node) (sym all) c.len.ensures.distinct) moved sorted)
+    (rises (nodes_of X) (nodes_of Y) (subst (IsDistinct same_node) (sym all) c.len.ensures.distinct) moved c.sort_by_node.ensures.sorted)
 
 pub returns-clause-entries : goal.returns-clause-entries
 returns-clause-entries g c =
-    moved_entries (g.G.Ground.stars_and_areas c.args.over.now) c.loop-next.seen.items c.sort_unstable_by_key.new.self.items
-    c.sort_unstable_by_key.ensures.permutation c.loop-next.invariant.entries
+    moved_entries (g.G.Ground.stars_and_areas c.args.over.now) c.loop-next.seen.items c.sort_by_node.new.seen.items
+    c.sort_by_node.ensures.permutation c.loop-next.invariant.entries
 
 pub returns-clause-dirt : goal.returns-clause-dirt
 returns-clause-dirt g c =
     let G = g.G.Ground.stars_and_areas c.args.over.now in
     let found : List Node = c.loop-next.found in
     let X : List Seen = c.loop-next.seen.items in
-    let Y : List Seen = c.sort_unstable_by_key.new.self.items in
+    let Y : List Seen = c.sort_by_node.new.seen.items in
     let out : List Node = nodes_of Y in
     let all : take c.loop-next.next found ≡ found = take_all c.loop-next.next found (omega (arith, c.loop-next-test.false, c.len.ensures.len)) in
     let moved : IsPermutation found out =
-    subst (λ ns. IsPermutation ns out) (c.loop-next.invariant.nodes ∙ all) (IsPermutation-map node_of X Y c.sort_unstable_by_key.ensures.permutation) in
+    subst (λ ns. IsPermutation ns out) (c.loop-next.invariant.nodes ∙ all) (IsPermutation-map node_of X Y c.sort_by_node.ensures.permutation) in
     dirt_is G (g.met.G.Ground.numbered c.args.over.now) out c.loop-next.least
     (dirt_moved G found out
     (λ n h. among_from_contains out n (Contains-permutation found out n moved (contains_from_among found n h)))
@@ -114,8 +111,8 @@ returns-clause-dirt g c =
 pub returns-clause-ticks : goal.returns-clause-ticks
 returns-clause-ticks g c = λ once.
     let X : List Seen = c.loop-next.seen.items in
-    let Y : List Seen = c.sort_unstable_by_key.new.self.items in
+    let Y : List Seen = c.sort_by_node.new.seen.items in
     let k = c.loop-next.next in
     let count : length X ≡ length c.loop-next.found =
     sym (length-map X node_of) ∙ ap length (c.loop-next.invariant.nodes ∙ take_all k c.loop-next.found (omega (arith, c.loop-next-test.false, c.len.ensures.len))) in
-    omega (arith, c.loop-next.invariant.counted once, c.loop-next.invariant.within, count, length_permutation X Y c.sort_unstable_by_key.ensures.permutation)
+    omega (arith, c.loop-next.invariant.counted once, c.loop-next.invariant.within, count, length_permutation X Y c.sort_by_node.ensures.permutation)
