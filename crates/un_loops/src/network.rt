@@ -14,7 +14,12 @@ use crate::link::Link;
 use crate::nodes::{OpenNode, place_of};
 use indexmap::IndexMap;
 use std::alloc::{AllocError, Global};
+use std::hash::BuildHasherDefault;
 use un_defs::{LinkName, Node, Spot, Tie};
+use un_walk::hasher::NumberHasher;
+
+/// Links by name, in the order in which they were found.
+pub(crate) type LinksByName = IndexMap<LinkName, Link, BuildHasherDefault<NumberHasher>>;
 
 fn is_path(name: LinkName) -> bool
     ensures { result ≡ is_path name }
@@ -53,7 +58,7 @@ fn add_link(
     tier: Option<u8>,
     at: usize,
     tie: &Tie,
-    links: &mut IndexMap<LinkName, Link>,
+    links: &mut LinksByName,
 ) -> Result<(), AllocError>
     requires sorted { IsStrictlySortedBy node_cmp (nodes_of nodes.now) }
     requires has { HasTie nodes.now at tie.now }
@@ -82,7 +87,7 @@ fn add_links(
     nodes: &[OpenNode],
     tier: Option<u8>,
     at: usize,
-    links: &mut IndexMap<LinkName, Link>,
+    links: &mut LinksByName,
 ) -> Result<(), AllocError>
     requires sorted { IsStrictlySortedBy node_cmp (nodes_of nodes.now) }
     requires inside { at < length nodes.now }
@@ -104,14 +109,14 @@ pub(crate) fn links_between(
     alloc: Global,
     nodes: &[OpenNode],
     tier: Option<u8>,
-) -> Result<IndexMap<LinkName, Link>, AllocError>
+) -> Result<LinksByName, AllocError>
     requires sorted { IsStrictlySortedBy node_cmp (nodes_of nodes.now) }
     requires mutual_links { AreMutual (IsLinkedAt tier nodes.now) }
     ensures between { IfOk result (AreBetween tier nodes.now) }
     ensures whole { IfOk result (λ links. (x : LinkName) (i j : ℕ)
         → IsLinkedAt tier nodes.now x i j → IsNamedIn links x) }
 {
-    let mut links = IndexMap::new(alloc);
+    let mut links = IndexMap::with_hasher(alloc, BuildHasherDefault::new());
     for at in 0..nodes.len() {
         add_links(nodes, tier, at, &mut links)?;
     }

@@ -66,5 +66,5 @@ pub(crate) fn place_of(nodes: &[OpenNode], node: Node) -> Option<usize>
     ensures { MatchOption result ((p : ℕ) → IsPlaceOf nodes.now node p → ⊥)
         (IsPlaceOf nodes.now node) }
 {
-    nodes.binary_search_by_key(&node, |open| open.node).ok()
+    nodes.binary_search_by(|open| open.node.cmp(&node)).ok()
 }

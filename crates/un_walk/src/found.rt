@@ -5,7 +5,7 @@ ghost use Rattle.std.specs.List.{IsDistinct};
 ghost use Rattle.un_defs.specs.Orders.{same_node};
 ghost use Rattle.un_walk.specs.Growth.{with_node};
 
-use crate::hasher::NodeHasher;
+use crate::hasher::NumberHasher;
 use indexmap::IndexSet;
 use std::alloc::{AllocError, Global};
 use std::hash::BuildHasherDefault;
@@ -15,7 +15,7 @@ use un_defs::Node;
 /// A list of distinct nodes that knows at once whether it has a node.
 #[derive(Drop)]
 pub(crate) struct Found {
-    nodes: IndexSet<Node, BuildHasherDefault<NodeHasher>>,
+    nodes: IndexSet<Node, BuildHasherDefault<NumberHasher>>,
 }
 
 impl Model for Found {

@@ -1,4 +1,4 @@
-//! A hasher for the nodes of a walk, which is quick where the parts of a key have at most eight bytes each.
+//! A hasher for keys made of numbers of at most eight bytes, as nodes and the names of links are.
 
 ghost use Rattle.std.specs.Prelude.{◌≡◌};
 ghost use Rattle.un_walk.specs.Hashing.{number, folded_product};
@@ -29,21 +29,22 @@ fn folded_product(a: u64, b: u64) -> u64
     (product & 0xFFFF_FFFF_FFFF_FFFF) as u64 ^ (product >> 64) as u64
 }
 
-/// Each part of a key is a number, which is joined to the state by a product. The seed is fixed.
+/// Hashes keys made of numbers of at most eight bytes. Each number is joined to the state by a product; of one that is written with more
+/// bytes the last eight count. The seed is fixed.
 #[derive(Clone, Copy)]
-pub(crate) struct NodeHasher {
+pub struct NumberHasher {
     state: u64,
 }
 
-impl Default for NodeHasher {
+impl Default for NumberHasher {
     ghost is_default = { λ h. h.state ≡ 0 };
 
-    fn default() -> NodeHasher {
-        NodeHasher { state: 0 }
+    fn default() -> NumberHasher {
+        NumberHasher { state: 0 }
     }
 }
 
-impl Hasher for NodeHasher {
+impl Hasher for NumberHasher {
     ghost use Rattle.un_walk.specs.Hashing.{write};
 
     ghost write = { write };

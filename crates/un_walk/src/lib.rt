@@ -41,7 +41,7 @@
 mod dirt;
 mod entries;
 mod found;
-mod hasher;
+pub mod hasher;
 pub mod seen;
 mod site;
 mod traversal;
