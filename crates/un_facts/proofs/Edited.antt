@@ -23,7 +23,7 @@ use Rattle.un_defs.specs.Links.{is_connectivity}
 use Rattle.un_defs.specs.Change.{Setting, Next, changed, add_row, change_row, new_row, moved, of_kind, on_path, numbered}
 use Rattle.un_defs.specs.Dirtied.{dirtied, envelope_of, envelope_of_given, partners}
 use Rattle.un_defs.proofs.RowEdits.{touch}
-use Rattle.un_store.specs.Words.{IsRowEdit}
+use Rattle.un_store.specs.Words.{IsRowEdit, row_of}
 use Rattle.un_store.specs.Keyed.{row_with}
 use Rattle.un_store.specs.Edits.{rows_after}
 use Rattle.un_store.specs.Refusals.{refusal_of, no_kind, no_row}
@@ -32,7 +32,7 @@ use Rattle.un_store.proofs.Held.{found_id}
 use Rattle.un_store.proofs.Makings.{rows_alone}
 use Rattle.un_grid.specs.Grids.{IsGridOf, HasRow, HasInPlace, LacksRow, InsertLaw, RemoveLaw, ReplaceLaw, StayLaw, without_row}
 use Rattle.un_assoc.specs.Words.{IsLinkEdit}
-use Rattle.un_facts.specs.Rectangles.{row_of, envelope_of_row, own_rectangles, other_rectangles}
+use Rattle.un_facts.specs.Rectangles.{envelope_of_row, own_rectangles, other_rectangles}
 use Rattle.un_facts.specs.Standers.{HasPorts}
 
 -- ---- rows with an id

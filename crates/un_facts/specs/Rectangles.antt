@@ -10,18 +10,6 @@ use Rattle.un_defs.specs.Features.{Features, association}
 use Rattle.un_defs.specs.Links.{is_connectivity}
 use Rattle.un_defs.specs.Dirtied.{envelope_of, partners, any_sort}
 
--- the id of the row that an edit makes or changes: a new one gets the next
-abbrev pub row_of : ℕ → Edit → ℕ
-row_of next (edit.Reshape id base points) = id
-row_of next (edit.Attrs id base attrs) = id
-row_of next (edit.Kind id base kind) = id
-row_of next (edit.Path id base path) = id
-row_of next (edit.Flow id base flow) = id
-row_of next (edit.Ends id base ends) = id
-row_of next (edit.Note id base note) = id
-row_of next (edit.Delete id base) = id
-row_of next _ = next
-
 -- the envelope of a row, if there is one
 abbrev pub envelope_of_row : Option Row → List Rectangle
 envelope_of_row r = option_to_list (envelope (option_map_or (λ r. r.shape) r []))

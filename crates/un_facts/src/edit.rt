@@ -6,26 +6,25 @@ ghost use Rattle.un_defs.specs.Dirtied.{dirtied};
 ghost use Rattle.un_store.specs.Words.{IsRowEdit};
 ghost use Rattle.un_assoc.specs.Words.{IsLinkEdit};
 ghost use Rattle.un_facts.specs.Known.{setting, next_at, edited, linked};
-ghost use Rattle.un_facts.specs.Changing.{AreRowsAfter, Follows};
+ghost use Rattle.un_facts.specs.Changing.{IsRowChange, Follows};
 ghost use Rattle.un_facts.specs.Standing.{IsKnown};
 ghost use Rattle.un_facts.specs.Refusals.{is_row_edit, is_of_features, refusal_of};
 
 use crate::facts::{Facts, Parts};
 use crate::ids::NextIds;
 use crate::ports::move_ports;
-use crate::rectangles::row_of;
 use std::alloc::{AllocError, Global};
 use un_assoc::Assocs;
 use un_assoc::laws::links_alone;
 use un_defs::{Edit, Refusal};
 use un_geom::Rect;
-use un_store::Store;
+use un_store::RowChange;
 use un_tiers::Setup;
 
-/// The rows, or the associations and controllers, that an edit leaves.
+/// What an edit leaves: a change of a row, or the associations and controllers.
 #[derive(Drop)]
 pub enum After {
-    Rows(Store),
+    Row(RowChange),
     Links(Assocs),
 }
 
@@ -77,14 +76,14 @@ impl Facts {
         let Setup { schema, .. } = parts.frame.setup();
         // For the proof alone.
         let _rules = schema.rules();
-        let rows = parts.rows.edit(alloc, edit, schema, ids.feature, moment)?;
+        let change = parts.rows.edit(alloc, edit, schema, ids.feature, moment)?;
         self.check_standing(edit)?;
-        let id = row_of(edit, ids.feature);
+        let id = change.id();
         let before = parts.rows.row(id);
-        let after = rows.row(id);
+        let after = change.row();
         let dirtied = self.rectangles(alloc, edit, before, after)?;
         Ok(Change {
-            after: After::Rows(rows),
+            after: After::Row(change),
             dirtied,
         })
     }
@@ -151,27 +150,27 @@ impl Facts {
         }
     }
 
-    // The features with these rows, which an edit of a row has left, in place of their own.
-    fn with_rows(
+    // The features with the change that an edit of a row makes.
+    fn with_row_change(
         self,
         alloc: Global,
         edit: &Edit,
         ids: NextIds,
         moment: u64,
-        rows: Store,
+        change: RowChange,
     ) -> Result<Facts, AllocError>
         requires word { IsRowEdit edit.now }
         requires new { AreNew (next_at ids moment) self.features }
-        requires rows { AreRowsAfter self ids moment edit.now rows }
+        requires change { IsRowChange self ids moment edit.now change }
         requires may { MayBeMade (setting self.setup) (next_at ids moment) self.features edit.now }
         ensures { IfOk result (λ facts. facts ≡ edited self ids moment edit.now) }
     {
         let mut parts = self.into_parts()?;
-        let id = row_of(edit, ids.feature);
+        let id = change.id();
         let before = parts.rows.row(id);
-        let after = rows.row(id);
+        let after = change.row();
         move_ports(&mut parts.grid, alloc, edit, before, after)?;
-        parts.rows = rows;
+        parts.rows.apply(alloc, change)?;
         let facts = Facts::of(alloc, parts)?;
         Ok(facts)
     }
@@ -187,7 +186,7 @@ impl Facts {
         Ok(facts)
     }
 
-    /// The features with what an edit leaves. Where no other features share a page of the ports, it is changed in place.
+    /// The features with what an edit leaves. Pages of rows and ports that no other features share are changed in place.
     pub fn changed(
         self,
         alloc: Global,
@@ -202,7 +201,7 @@ impl Facts {
         ensures { IfOk result (λ facts. facts ≡ edited self ids moment edit.now) }
     {
         match after {
-            After::Rows(rows) => self.with_rows(alloc, edit, ids, moment, rows),
+            After::Row(change) => self.with_row_change(alloc, edit, ids, moment, change),
             After::Links(assocs) => self.with_links(alloc, assocs),
         }
     }

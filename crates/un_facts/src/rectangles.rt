@@ -2,7 +2,7 @@
 ghost use Rattle.std.specs.Prelude.{◌≡◌, ◌++◌, [], ◌∷◌, flat_map, IfOk, OnOk, option_to_list};
 ghost use Rattle.std.specs.Option.{option_copied};
 ghost use Rattle.un_defs.specs.Dirtied.{envelope_of, partners};
-ghost use Rattle.un_facts.specs.Rectangles.{row_of, envelope_of_row, own_rectangles, ends_of, other_rows, other_rectangles};
+ghost use Rattle.un_facts.specs.Rectangles.{envelope_of_row, own_rectangles, ends_of, other_rows, other_rectangles};
 ghost use Rattle.un_facts.specs.Partners.{takes, taken_end};
 
 use crate::facts::Facts;
@@ -16,30 +16,6 @@ use un_geom::Rect;
 pub(crate) enum Which {
     Connectivity,
     All,
-}
-
-/// The id of the row that an edit makes or changes.
-pub(crate) fn row_of(edit: &Edit, next: u64) -> u64
-    ensures { result ≡ row_of next edit.now }
-{
-    match edit {
-        Edit::Reshape { id, .. }
-        | Edit::Attrs { id, .. }
-        | Edit::Kind { id, .. }
-        | Edit::Path { id, .. }
-        | Edit::Flow { id, .. }
-        | Edit::Ends { id, .. }
-        | Edit::Note { id, .. }
-        | Edit::Delete { id, .. } => *id,
-        Edit::Insert { .. }
-        | Edit::Connect { .. }
-        | Edit::Contain { .. }
-        | Edit::Attach { .. }
-        | Edit::Detach { .. }
-        | Edit::Controller { .. }
-        | Edit::Uncontroller { .. }
-        | Edit::Rule { .. } => next,
-    }
 }
 
 // The envelope of a row, if there is one.

@@ -13,6 +13,7 @@ use Rattle.un_pages.specs.Pairs.{IsOrdered, IsAbove}
 use Rattle.un_pages.proofs.Ordered.{above_lower, above_first, lookup_all_above, insert_ordered, remove_ordered}
 use Rattle.un_defs.specs.declared.row.Row.{Row}
 use Rattle.un_store.specs.Keyed.{ids_of, IsKeyed, IsRising, row_with}
+use Rattle.un_store.specs.Changes.{with_row}
 use Rattle.un_store.specs.Edits.{at_moment, settled}
 
 -- the keys are the ids
@@ -76,6 +77,39 @@ insert_keyed key r ps qs same e k = subst IsKeyed (sym e) (record {
   ids = insert_ids key r ps same k.ids;
 })
 
+-- the row at its place by id is the one put under its id
+pub insert_is : (r : Row) (ps : List (ℕ × Row)) → SameIds ps → values_of (insert_entry nat_cmp ps r.id r) ≡ with_row (values_of ps) r
+insert_is r [] e = refl
+insert_is r (p ∷ ps) e = by (nat_cmp r.id p.0) (insert_is r ps (tail_ids p ps e)) ∙ ap (λ n. match_ordering (nat_cmp r.id n) (r ∷ p.1 ∷ values_of ps) (r ∷ values_of ps) (p.1 ∷ with_row (values_of ps) r)) (head_id p ps e)
+  where
+    by : (o : Ordering) → values_of (insert_entry nat_cmp ps r.id r) ≡ with_row (values_of ps) r
+        → values_of (match_ordering o ((r.id, r) ∷ p ∷ ps) ((p.0, r) ∷ ps) (p ∷ insert_entry nat_cmp ps r.id r)) ≡ match_ordering o (r ∷ p.1 ∷ values_of ps) (r ∷ values_of ps) (p.1 ∷ with_row (values_of ps) r)
+    by Less ih = refl
+    by Equal ih = refl
+    by Greater ih = ap (λ l. p.1 ∷ l) ih
+
+-- the rows, each under its id
+abbrev keyed : List Row → List (ℕ × Row)
+keyed rows = map (λ r. (r.id, r)) rows
+
+values_keyed : (rows : List Row) → values_of (keyed rows) ≡ rows
+values_keyed [] = refl
+values_keyed (r ∷ rows) = ap (λ l. r ∷ l) (values_keyed rows)
+
+keys_keyed : (rows : List Row) → keys_of (keyed rows) ≡ ids_of rows
+keys_keyed [] = refl
+keys_keyed (r ∷ rows) = ap (λ l. r.id ∷ l) (keys_keyed rows)
+
+same_keyed : (rows : List Row) → SameIds (keyed rows)
+same_keyed rows = keys_keyed rows ∙ ap ids_of (sym (values_keyed rows))
+
+-- a row over all others comes last
+pub over_all : (r : Row) (rows : List Row) → All (λ s. s.id < r.id) rows → with_row rows r ≡ rows ++ r ∷ []
+over_all r rows above =
+    ap (λ l. with_row l r) (sym (values_keyed rows)) ∙ sym (insert_is r (keyed rows) (same_keyed rows))
+    ∙ insert_over r.id r (keyed rows) (same_keyed rows) (subst (All (λ s. s.id < r.id)) (sym (values_keyed rows)) above)
+    ∙ ap (λ l. l ++ r ∷ []) (values_keyed rows)
+
 -- ---- a row that is changed
 
 -- the row with this id is changed, and no other
@@ -115,6 +149,46 @@ insert_changed id change old (p ∷ ps) s e h = by (nat_cmp id p.0) refl h (inse
     by Greater c g ih =
         let other : (p.1.id == id) ≡ false = let e0 = head_id p ps e in let below = ranked id p.0 Greater (sym c) in grind (arith, nat_tests) in
         ap (λ l. p.1 ∷ l) (ih g) ∙ ap (λ b. (if b then change p.1 else p.1) ∷ map (touched id change) (values_of ps)) (sym other)
+
+-- a row in place of the one with its id, of rows that rise
+pub put_changed : (id : ℕ) (change : Row → Row) (old row : Row) (rows : List Row) → IsRising rows → row.id ≡ id → row_with rows id ≡ Some old → row ≡ change old
+    → with_row rows row ≡ map (touched id change) rows
+put_changed id change old row rows rising same found is =
+    let ps = keyed rows in
+    let at : lookup (is_at (nat_cmp id)) ps ≡ Some old = lookup_is id ps (same_keyed rows) ∙ ap (λ l. row_with l id) (values_keyed rows) ∙ found in
+    ap (λ l. with_row l row) (sym (values_keyed rows)) ∙ sym (insert_is row ps (same_keyed rows))
+    ∙ ap (λ n. values_of (insert_entry nat_cmp ps n row)) same ∙ ap (λ r. values_of (insert_entry nat_cmp ps id r)) is
+    ∙ insert_changed id change old ps (subst (IsStrictlySortedBy nat_cmp) (sym (keys_keyed rows)) rising) (same_keyed rows) at
+    ∙ ap (map (touched id change)) (values_keyed rows)
+
+itself : (n : ℕ) → (n == n) ≡ true
+itself n = grind (arith, nat_tests)
+
+-- a row that was put is found
+pub put_found : (row : Row) (rows : List Row) → Some row ≡ row_with (with_row rows row) row.id
+put_found row [] = sym (ap (λ b. cond b (Some row) None) (itself row.id))
+put_found row (s ∷ rows) = by (nat_cmp row.id s.id) refl (put_found row rows)
+  where
+    first : (l : List Row) → Some row ≡ row_with (row ∷ l) row.id
+    first l = sym (ap (λ b. cond b (Some row) (row_with l row.id)) (itself row.id))
+
+    by : (o : Ordering) → nat_cmp row.id s.id ≡ o → Some row ≡ row_with (with_row rows row) row.id
+        → Some row ≡ row_with (match_ordering o (row ∷ s ∷ rows) (row ∷ rows) (s ∷ with_row rows row)) row.id
+    by Less c ih = first (s ∷ rows)
+    by Equal c ih = first rows
+    by Greater c ih =
+        let other : (s.id == row.id) ≡ false = let below = ranked row.id s.id Greater (sym c) in grind (arith, nat_tests) in
+        ih ∙ sym (ap (λ b. cond b (Some s) (row_with (with_row rows row) row.id)) other)
+
+-- a row that was taken out is not
+pub gone_not_found : (id : ℕ) (rows : List Row) → None ≡ row_with (filter (λ r. not (r.id == id)) rows) id
+gone_not_found id [] = refl
+gone_not_found id (r ∷ rows) = by (r.id == id) refl (gone_not_found id rows)
+  where
+    by : (b : Bool) → (r.id == id) ≡ b → None ≡ row_with (filter (λ r. not (r.id == id)) rows) id
+        → None ≡ row_with (cond (not b) (r ∷ filter (λ r. not (r.id == id)) rows) (filter (λ r. not (r.id == id)) rows)) id
+    by true c ih = ih
+    by false c ih = ih ∙ sym (ap (λ b. cond b (Some r) (row_with (filter (λ r. not (r.id == id)) rows) id)) c)
 
 -- ---- a row that goes
 

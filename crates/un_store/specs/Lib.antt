@@ -1,5 +1,6 @@
 pub mod Keyed
 pub mod Words
+pub mod Changes
 pub mod Refusals
 pub mod Edits
 pub mod Fitting

@@ -1,5 +1,5 @@
--- Which word an edit has.
-use Rattle.std.specs.Prelude.{⊤}
+-- Which word an edit has, and the row that it is of.
+use Rattle.std.specs.Prelude.{⊤, ℕ}
 use Rattle.un_defs.specs.declared.edit.Edit.{Edit}
 use Rattle.un_defs.specs.declared.edit.Edit.TheVariants as edit
 
@@ -51,3 +51,15 @@ IsRowEdit (edit.Ends id base ends) = ⊤
 IsRowEdit (edit.Note id base note) = ⊤
 IsRowEdit (edit.Delete id base) = ⊤
 IsRowEdit _ = ⊥
+
+-- the id of the row that an edit makes or changes: a new one gets the next
+abbrev pub row_of : ℕ → Edit → ℕ
+row_of next (edit.Reshape id base points) = id
+row_of next (edit.Attrs id base attrs) = id
+row_of next (edit.Kind id base kind) = id
+row_of next (edit.Path id base path) = id
+row_of next (edit.Flow id base flow) = id
+row_of next (edit.Ends id base ends) = id
+row_of next (edit.Note id base note) = id
+row_of next (edit.Delete id base) = id
+row_of next _ = next

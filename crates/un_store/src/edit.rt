@@ -1,17 +1,19 @@
 //! Any edit of rows.
 ghost use Rattle.std.specs.Prelude.{◌≡◌, ◌≢◌, ◌<◌, All, Some, None, IfOk, OnOk, IfErr};
 ghost use Rattle.un_defs.specs.declared.refusal.Refusal.TheVariants.{Memory};
-ghost use Rattle.un_store.specs.Words.{IsRowEdit};
+ghost use Rattle.un_store.specs.Changes.{applied, id_of};
+ghost use Rattle.un_store.specs.Words.{row_of, IsRowEdit};
 ghost use Rattle.un_store.specs.Refusals.{refusal_of};
 ghost use Rattle.un_store.specs.Edits.{rows_after};
 
+use crate::change::RowChange;
 use crate::store::Store;
 use std::alloc::Global;
 use un_defs::{Edit, Refusal};
 use un_schema::Schema;
 
 impl Store {
-    /// The rows after an edit of a row, by its word.
+    /// The change that an edit of a row makes, by its word.
     ///
     /// It is refused as by the call of its word: `NoSuchFeature`, `Moved`, `NoSuchKind`, `WrongKind`, `BadShape`, `BadAttribute`,
     /// `BadPath` or `Full`, whichever of them is due first there.
@@ -22,10 +24,12 @@ impl Store {
         schema: &Schema,
         next: u64,
         moment: u64,
-    ) -> Result<Store, Refusal>
+    ) -> Result<RowChange, Refusal>
         requires word { IsRowEdit edit.now }
         requires next { All (λ r. r.id < next) self.now }
-        ensures rows { IfOk result (λ store. store ≡ rows_after schema.now next moment self.now edit.now) }
+        ensures rows { IfOk result (λ change. applied self.now change
+            ≡ rows_after schema.now next moment self.now edit.now) }
+        ensures id { IfOk result (λ change. id_of change ≡ row_of next edit.now) }
         ensures good { OnOk result (refusal_of schema.now self.now edit.now ≡ None) }
         ensures bad { IfErr result (λ refusal. refusal ≢ Memory
             → refusal_of schema.now self.now edit.now ≡ Some refusal) }

@@ -2,11 +2,13 @@
 ghost use Rattle.std.specs.Prelude.{◌≡◌, ◌≢◌, All, Some, None, IfOk, OnOk, IfErr};
 ghost use Rattle.un_defs.specs.declared.refusal.Refusal.TheVariants.{Memory};
 ghost use Rattle.un_defs.specs.Sound.{FitsKind};
-ghost use Rattle.un_store.specs.Words.{IsReshape, IsAttrs, IsKind, IsPath, IsFlow, IsEnds, IsNote, IsDelete};
+ghost use Rattle.un_store.specs.Changes.{applied, id_of};
+ghost use Rattle.un_store.specs.Words.{row_of, IsReshape, IsAttrs, IsKind, IsPath, IsFlow, IsEnds, IsNote, IsDelete};
 ghost use Rattle.un_store.specs.Refusals.{refusal_of};
 ghost use Rattle.un_defs.specs.Change.{change_row};
 ghost use Rattle.un_store.specs.Edits.{rows_after, only_rows, at_moment, Fits, settled};
 
+use crate::change::RowChange;
 use crate::checks::{attrs_of, check_class, check_line, kind_number, path_of, shape_of};
 use crate::parts::{configured, copied, reshaped, terminals_by_class};
 use crate::store::Store;
@@ -15,7 +17,7 @@ use un_defs::{Edit, Refusal};
 use un_schema::Schema;
 
 impl Store {
-    /// The store with the points of a row replaced.
+    /// The change that replaces the points of a row.
     ///
     /// In this order it is refused: `NoSuchFeature`, `Moved`, `BadShape`.
     pub fn reshape(
@@ -25,9 +27,11 @@ impl Store {
         schema: &Schema,
         next: u64,
         moment: u64,
-    ) -> Result<Store, Refusal>
+    ) -> Result<RowChange, Refusal>
         requires word { IsReshape edit.now }
-        ensures rows { IfOk result (λ store. store ≡ rows_after schema.now next moment self.now edit.now) }
+        ensures rows { IfOk result (λ change. applied self.now change
+            ≡ rows_after schema.now next moment self.now edit.now) }
+        ensures id { IfOk result (λ change. id_of change ≡ row_of next edit.now) }
         ensures good { OnOk result (refusal_of schema.now self.now edit.now ≡ None) }
         ensures bad { IfErr result (λ refusal. refusal ≢ Memory
             → refusal_of schema.now self.now edit.now ≡ Some refusal) }
@@ -41,10 +45,10 @@ impl Store {
         let shape = shape_of(alloc, row.class, points)?;
         let mut new = reshaped(alloc, row, shape)?;
         new.moment = moment;
-        Ok(self.with_changed(alloc, *id, new)?)
+        Ok(self.replace(*id, new))
     }
 
-    /// The store with all attributes of a row replaced.
+    /// The change that replaces all attributes of a row.
     ///
     /// In this order it is refused: `NoSuchFeature`, `Moved`, `BadAttribute`.
     pub fn attrs(
@@ -54,9 +58,11 @@ impl Store {
         schema: &Schema,
         next: u64,
         moment: u64,
-    ) -> Result<Store, Refusal>
+    ) -> Result<RowChange, Refusal>
         requires word { IsAttrs edit.now }
-        ensures rows { IfOk result (λ store. store ≡ rows_after schema.now next moment self.now edit.now) }
+        ensures rows { IfOk result (λ change. applied self.now change
+            ≡ rows_after schema.now next moment self.now edit.now) }
+        ensures id { IfOk result (λ change. id_of change ≡ row_of next edit.now) }
         ensures good { OnOk result (refusal_of schema.now self.now edit.now ≡ None) }
         ensures bad { IfErr result (λ refusal. refusal ≢ Memory
             → refusal_of schema.now self.now edit.now ≡ Some refusal) }
@@ -69,10 +75,10 @@ impl Store {
         let mut new = copied(alloc, row)?;
         new.attrs = attrs;
         new.moment = moment;
-        Ok(self.with_changed(alloc, *id, new)?)
+        Ok(self.replace(*id, new))
     }
 
-    /// The store with a row of another kind. A device goes to the first path of the new configuration.
+    /// The change that makes a row one of another kind. A device goes to the first path of the new configuration.
     ///
     /// In this order it is refused: `NoSuchFeature`; `Moved`; `NoSuchKind`; `WrongKind`, where the kind has another class.
     pub fn kind(
@@ -82,9 +88,11 @@ impl Store {
         schema: &Schema,
         next: u64,
         moment: u64,
-    ) -> Result<Store, Refusal>
+    ) -> Result<RowChange, Refusal>
         requires word { IsKind edit.now }
-        ensures rows { IfOk result (λ store. store ≡ rows_after schema.now next moment self.now edit.now) }
+        ensures rows { IfOk result (λ change. applied self.now change
+            ≡ rows_after schema.now next moment self.now edit.now) }
+        ensures id { IfOk result (λ change. id_of change ≡ row_of next edit.now) }
         ensures good { OnOk result (refusal_of schema.now self.now edit.now ≡ None) }
         ensures bad { IfErr result (λ refusal. refusal ≢ Memory
             → refusal_of schema.now self.now edit.now ≡ Some refusal) }
@@ -103,10 +111,10 @@ impl Store {
         new.terminals = terminals_by_class(row.class, terminals);
         new.path = path;
         new.moment = moment;
-        Ok(self.with_changed(alloc, *id, new)?)
+        Ok(self.replace(*id, new))
     }
 
-    /// The store with a device on another path.
+    /// The change that puts a device on another path.
     ///
     /// In this order it is refused: `NoSuchFeature`; `Moved`; `BadPath`, where the row is no device with a configuration that
     /// has the path.
@@ -117,9 +125,11 @@ impl Store {
         schema: &Schema,
         next: u64,
         moment: u64,
-    ) -> Result<Store, Refusal>
+    ) -> Result<RowChange, Refusal>
         requires word { IsPath edit.now }
-        ensures rows { IfOk result (λ store. store ≡ rows_after schema.now next moment self.now edit.now) }
+        ensures rows { IfOk result (λ change. applied self.now change
+            ≡ rows_after schema.now next moment self.now edit.now) }
+        ensures id { IfOk result (λ change. id_of change ≡ row_of next edit.now) }
         ensures good { OnOk result (refusal_of schema.now self.now edit.now ≡ None) }
         ensures bad { IfErr result (λ refusal. refusal ≢ Memory
             → refusal_of schema.now self.now edit.now ≡ Some refusal) }
@@ -136,10 +146,10 @@ impl Store {
         let mut new = copied(alloc, row)?;
         new.path = Some(path);
         new.moment = moment;
-        Ok(self.with_changed(alloc, *id, new)?)
+        Ok(self.replace(*id, new))
     }
 
-    /// The store with a line's flow another way.
+    /// The change of a line's flow.
     ///
     /// In this order it is refused: `NoSuchFeature`; `Moved`; `WrongKind`, where the row is no line.
     pub fn flow(
@@ -149,9 +159,11 @@ impl Store {
         schema: &Schema,
         next: u64,
         moment: u64,
-    ) -> Result<Store, Refusal>
+    ) -> Result<RowChange, Refusal>
         requires word { IsFlow edit.now }
-        ensures rows { IfOk result (λ store. store ≡ rows_after schema.now next moment self.now edit.now) }
+        ensures rows { IfOk result (λ change. applied self.now change
+            ≡ rows_after schema.now next moment self.now edit.now) }
+        ensures id { IfOk result (λ change. id_of change ≡ row_of next edit.now) }
         ensures good { OnOk result (refusal_of schema.now self.now edit.now ≡ None) }
         ensures bad { IfErr result (λ refusal. refusal ≢ Memory
             → refusal_of schema.now self.now edit.now ≡ Some refusal) }
@@ -164,10 +176,10 @@ impl Store {
         let mut new = copied(alloc, row)?;
         new.flow = *flow;
         new.moment = moment;
-        Ok(self.with_changed(alloc, *id, new)?)
+        Ok(self.replace(*id, new))
     }
 
-    /// The store with other terminals chosen at the ends of a line.
+    /// The change that chooses other terminals at the ends of a line.
     ///
     /// In this order it is refused: `NoSuchFeature`; `Moved`; `WrongKind`, where the row is no line.
     pub fn ends(
@@ -177,9 +189,11 @@ impl Store {
         schema: &Schema,
         next: u64,
         moment: u64,
-    ) -> Result<Store, Refusal>
+    ) -> Result<RowChange, Refusal>
         requires word { IsEnds edit.now }
-        ensures rows { IfOk result (λ store. store ≡ rows_after schema.now next moment self.now edit.now) }
+        ensures rows { IfOk result (λ change. applied self.now change
+            ≡ rows_after schema.now next moment self.now edit.now) }
+        ensures id { IfOk result (λ change. id_of change ≡ row_of next edit.now) }
         ensures good { OnOk result (refusal_of schema.now self.now edit.now ≡ None) }
         ensures bad { IfErr result (λ refusal. refusal ≢ Memory
             → refusal_of schema.now self.now edit.now ≡ Some refusal) }
@@ -193,10 +207,10 @@ impl Store {
         let ends = *ends;
         new.ends = ends;
         new.moment = moment;
-        Ok(self.with_changed(alloc, *id, new)?)
+        Ok(self.replace(*id, new))
     }
 
-    /// The store with another note of a row.
+    /// The change of a row's note.
     ///
     /// In this order it is refused: `NoSuchFeature`, `Moved`.
     pub fn note(
@@ -206,9 +220,11 @@ impl Store {
         schema: &Schema,
         next: u64,
         moment: u64,
-    ) -> Result<Store, Refusal>
+    ) -> Result<RowChange, Refusal>
         requires word { IsNote edit.now }
-        ensures rows { IfOk result (λ store. store ≡ rows_after schema.now next moment self.now edit.now) }
+        ensures rows { IfOk result (λ change. applied self.now change
+            ≡ rows_after schema.now next moment self.now edit.now) }
+        ensures id { IfOk result (λ change. id_of change ≡ row_of next edit.now) }
         ensures good { OnOk result (refusal_of schema.now self.now edit.now ≡ None) }
         ensures bad { IfErr result (λ refusal. refusal ≢ Memory
             → refusal_of schema.now self.now edit.now ≡ Some refusal) }
@@ -220,10 +236,10 @@ impl Store {
         let mut new = copied(alloc, row)?;
         new.note = note.copy(alloc)?;
         new.moment = moment;
-        Ok(self.with_changed(alloc, *id, new)?)
+        Ok(self.replace(*id, new))
     }
 
-    /// The store without a row.
+    /// The change that takes a row out.
     ///
     /// In this order it is refused: `NoSuchFeature`, `Moved`. Whether the row is an end of an association or has a controller
     /// is not looked at here.
@@ -234,9 +250,11 @@ impl Store {
         schema: &Schema,
         next: u64,
         moment: u64,
-    ) -> Result<Store, Refusal>
+    ) -> Result<RowChange, Refusal>
         requires word { IsDelete edit.now }
-        ensures rows { IfOk result (λ store. store ≡ rows_after schema.now next moment self.now edit.now) }
+        ensures rows { IfOk result (λ change. applied self.now change
+            ≡ rows_after schema.now next moment self.now edit.now) }
+        ensures id { IfOk result (λ change. id_of change ≡ row_of next edit.now) }
         ensures good { OnOk result (refusal_of schema.now self.now edit.now ≡ None) }
         ensures bad { IfErr result (λ refusal. refusal ≢ Memory
             → refusal_of schema.now self.now edit.now ≡ Some refusal) }
@@ -245,7 +263,7 @@ impl Store {
             unreachable!()
         };
         let _row = self.found(*id, *base)?;
-        Ok(self.without(alloc, *id)?)
+        Ok(RowChange::Remove(*id))
     }
 
     /// The store in which those of the rows with these ids that are there have the moment, as at the end of a batch.
@@ -268,7 +286,8 @@ impl Store {
             Some(row) => {
                 let mut new = copied(alloc, row)?;
                 new.moment = moment;
-                self.put_changed(alloc, id, new)
+                let change = self.replace(id, new);
+                self.apply(alloc, change)
             }
         }
     }

@@ -1,10 +1,12 @@
 //! Inserts.
 ghost use Rattle.std.specs.Prelude.{◌≡◌, ◌≢◌, ◌<◌, All, Some, None, IfOk, OnOk, IfErr};
 ghost use Rattle.un_defs.specs.declared.refusal.Refusal.TheVariants.{Memory};
-ghost use Rattle.un_store.specs.Words.{IsInsert};
+ghost use Rattle.un_store.specs.Changes.{applied, id_of};
+ghost use Rattle.un_store.specs.Words.{row_of, IsInsert};
 ghost use Rattle.un_store.specs.Refusals.{refusal_of};
 ghost use Rattle.un_store.specs.Edits.{rows_after, Fits};
 
+use crate::change::RowChange;
 use crate::checks::{attrs_of, check_plain, check_room, kind_number, shape_of};
 use crate::parts::{configured, terminals_by_class};
 use crate::store::Store;
@@ -13,7 +15,7 @@ use un_defs::{Edit, Refusal, Row};
 use un_schema::Schema;
 
 impl Store {
-    /// The store with the feature that the edit inserts.
+    /// The change that adds the feature that the edit inserts.
     ///
     /// `next` is the id that it gets, over every id of the store, and `moment` its moment. In this order the edit is refused:
     /// `NoSuchKind`; `WrongKind`, where the kind is no line but the flow is not both ways or a terminal is chosen; `BadShape`;
@@ -25,10 +27,12 @@ impl Store {
         schema: &Schema,
         next: u64,
         moment: u64,
-    ) -> Result<Store, Refusal>
+    ) -> Result<RowChange, Refusal>
         requires word { IsInsert edit.now }
         requires next { All (λ r. r.id < next) self.now }
-        ensures rows { IfOk result (λ store. store ≡ rows_after schema.now next moment self.now edit.now) }
+        ensures rows { IfOk result (λ change. applied self.now change
+            ≡ rows_after schema.now next moment self.now edit.now) }
+        ensures id { IfOk result (λ change. id_of change ≡ row_of next edit.now) }
         ensures good { OnOk result (refusal_of schema.now self.now edit.now ≡ None) }
         ensures bad { IfErr result (λ refusal. refusal ≢ Memory
             → refusal_of schema.now self.now edit.now ≡ Some refusal) }
@@ -65,6 +69,6 @@ impl Store {
             note: note.copy(alloc)?,
             moment,
         };
-        Ok(self.with_new(alloc, row)?)
+        Ok(self.add(row))
     }
 }

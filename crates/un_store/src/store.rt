@@ -1,12 +1,14 @@
 //! The store.
-ghost use Rattle.std.specs.Prelude.{◌≡◌, ◌<◌, ◌==◌, not, ◌++◌, ◌∷◌, [], filter, All, None, Some, IfOk, OnOk, IfErr, length};
+ghost use Rattle.std.specs.Prelude.{◌≡◌, ◌<◌, ◌==◌, not, ◌++◌, ◌∷◌, [], filter, All, None, Some, IfOk, OnOk, OnErr, IfErr, length};
 ghost use Rattle.std.specs.Map.{values_of};
 ghost use Rattle.std.specs.Option.{option_copied};
 ghost use Rattle.un_geom.specs.Places.{IsPlace};
 ghost use Rattle.un_store.specs.Keyed.{IsRising, row_with, is_line_of, line_points};
 ghost use Rattle.un_store.specs.Refusals.{no_row};
+ghost use Rattle.un_store.specs.Changes.{applied, with_row, id_of};
 ghost use Rattle.un_store.specs.Edits.{IsReplaced};
 
+use crate::change::RowChange;
 use std::alloc::{AllocError, Global};
 use std::marker::Model;
 use std::ops::Bound;
@@ -97,13 +99,36 @@ impl Store {
         Ok(Store { rows })
     }
 
-    /// The store with one more row, whose id is over all others.
-    pub(crate) fn with_new(&self, alloc: Global, row: Row) -> Result<Store, AllocError>
-        requires { All (λ r. r.id < row.id) self.now }
-        ensures { IfOk result (λ store. store ≡ self.now ++ row ∷ []) }
+    /// Makes the change on the store itself. Pages that no other store shares are changed in place, the others copied. For want of memory
+    /// the store is as it was.
+    pub fn apply(&mut self, alloc: Global, change: RowChange) -> Result<(), AllocError>
+        ensures ok { OnOk result (self.new ≡ applied self.old change) }
+        ensures err { OnErr result (self.new ≡ self.old) }
     {
-        let rows = self.rows.with(alloc, row.id, row)?;
-        Ok(Store { rows })
+        match change {
+            RowChange::Put(row) => self.put(alloc, row),
+            RowChange::Remove(id) => self.remove(alloc, id),
+        }
+    }
+
+    // Puts a row, in place of the one with its id if there is one.
+    fn put(&mut self, alloc: Global, row: Row) -> Result<(), AllocError>
+        ensures ok { OnOk result (self.new ≡ with_row self.old row) }
+        ensures err { OnErr result (self.new ≡ self.old) }
+    {
+        let id = row.id;
+        let shared = Arc::new(alloc, row)?;
+        self.rows.put(alloc, id, shared)?;
+        Ok(())
+    }
+
+    // Takes the row with this id out.
+    fn remove(&mut self, alloc: Global, id: u64) -> Result<(), AllocError>
+        ensures ok { OnOk result (self.new ≡ filter (λ r. not (r.id == id)) self.old) }
+        ensures err { OnErr result (self.new ≡ self.old) }
+    {
+        self.rows.take(alloc, &id)?;
+        Ok(())
     }
 }
 
@@ -124,32 +149,24 @@ impl Store {
         Ok(row)
     }
 
-    /// The store with a row in place of the one with this id.
-    pub(crate) fn with_changed(&self, alloc: Global, id: u64, row: Row) -> Result<Store, AllocError>
-        requires { row.id ≡ id }
-        ensures { IfOk result (IsReplaced self.now id row) }
+    /// The change that adds a row, whose id is over all others.
+    pub(crate) fn add(&self, row: Row) -> RowChange
+        requires { All (λ r. r.id < row.id) self.now }
+        ensures rows { applied self.now result ≡ self.now ++ row ∷ [] }
+        ensures id { id_of result ≡ row.id }
     {
-        let mut store = self.share()?;
-        store.put_changed(alloc, id, row)?;
-        Ok(store)
+        RowChange::Put(row)
     }
 
-    /// Puts a row in place of the one with this id, on the store itself.
-    pub(crate) fn put_changed(&mut self, alloc: Global, id: u64, row: Row) -> Result<(), AllocError>
+    /// The change that puts a row in place of the one with this id.
+    pub(crate) fn replace(&self, id: u64, row: Row) -> RowChange
         requires { row.id ≡ id }
-        ensures { OnOk result (IsReplaced self.old id row self.new) }
+        ensures rows { IsReplaced self.now id row (applied self.now result) }
+        ensures id { id_of result ≡ id }
     {
-        let shared = Arc::new(alloc, row)?;
-        self.rows.put(alloc, id, shared)?;
-        Ok(())
-    }
-
-    /// The store without the row with this id.
-    pub(crate) fn without(&self, alloc: Global, id: u64) -> Result<Store, AllocError>
-        ensures { IfOk result (λ store. store ≡ filter (λ r. not (r.id == id)) self.now) }
-    {
-        let rows = self.rows.without(alloc, &id)?;
-        Ok(Store { rows })
+        // For the proof alone.
+        let _rising = self.len();
+        RowChange::Put(row)
     }
 }
 

@@ -6,5 +6,5 @@ use Rattle.un_store.proofs.store.Store.settle_one.Goals as goal
 pub returns-in-None : goal.returns-in-None
 returns-in-None c = sym (none_touched c.args.id (at_moment c.args.moment) c.args.self.now (sym c.in-None.ensures))
 
-pub put_changed-requires : goal.put_changed-requires
-put_changed-requires c = ap (λ r. r.id) c.in_ok-new-in-Some.ensures ∙ found_id c.args.self.now c.args.id c.in-Some.row.now (sym c.in-Some.ensures)
+pub replace-change-requires : goal.replace-change-requires
+replace-change-requires c = ap (λ r. r.id) c.in_ok-new-in-Some.ensures ∙ found_id c.args.self.now c.args.id c.in-Some.row.now (sym c.in-Some.ensures)
