@@ -10,3 +10,4 @@ pub mod Endings
 pub mod Commands
 mod FollowTexts
 mod FollowOpens
+mod Redone

@@ -7,3 +7,4 @@ pub mod Following
 pub mod FollowReplies
 pub mod Made
 pub mod Runs
+pub mod Redone

@@ -5,6 +5,7 @@ mod follow;
 mod laws;
 mod make;
 mod opening;
+mod recoverable;
 mod run;
 mod script;
 

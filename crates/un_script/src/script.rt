@@ -1,9 +1,9 @@
 //! A network as a handler of lines.
 //!
-//! The first line is read as a schema, which opens the network; each later line is read as a request. A command gives a reply and,
-//! where it is accepted, the next network, which takes the place of the old one once the reply is printed. A command's reply is
-//! printed into room that is spare, so that want of memory never parts the reply from what was done.
-ghost use Rattle.std.specs.Prelude.{◌≡◌, ◌≢◌, ℕ, ◌+◌, ◌<◌, ◌≤◌, List, [], ◌∷◌, ◌++◌, Some, None, Ok, Err, OnOk, OnErr, length, vec_len, vec_capacity};
+//! The first line is read as a schema, which opens the network; each later line is read as a request. A command changes the network, where it
+//! is accepted, and gives a reply. A command's reply is printed into room that is spare, so that want of memory never parts the reply from
+//! what was done.
+ghost use Rattle.std.specs.Prelude.{◌≡◌, ◌≢◌, ℕ, ◌+◌, ◌<◌, ◌≤◌, List, [], ◌∷◌, ◌++◌, Some, None, Ok, Err, IfOk, OnOk, OnErr, length, vec_len, vec_capacity};
 ghost use Rattle.un_schema_json.specs.Lines.{schema_of};
 ghost use Rattle.un_schema.specs.declared.place.Place.TheVariants as place;
 ghost use Rattle.un_ask.specs.declared.request.Request.TheVariants.{Command as OfCommand};
@@ -11,6 +11,7 @@ ghost use Rattle.un_json.specs.Requests.{ask, fault_reply};
 ghost use Rattle.un_replies.specs.Commands.{IsOfCommand, HasFewIds};
 ghost use Rattle.un_replies.specs.Replies.{print};
 ghost use Rattle.un_ask.specs.Replies.{HasFewEdits};
+ghost use Rattle.un_core.specs.State.{opening};
 ghost use Rattle.un_core.specs.Commands.{command_reply, state_after};
 ghost use Rattle.un_core.specs.Answers.{answer};
 ghost use Rattle.un_core.specs.Requests.{serve_only};
@@ -19,6 +20,7 @@ ghost use Rattle.un_script.specs.Script.{reply_to_line, state_behind_line};
 use crate::opening::{
     line_too_long, no_schema, print_bad_schema, print_line, refuse, refused, schema_too_long,
 };
+use crate::recoverable::Recoverable;
 use std::alloc::{AllocError, Global};
 use std::marker::PhantomData;
 use un_ask::{Command, Query, Refusal, Reply, Request};
@@ -26,15 +28,16 @@ use un_core::Net;
 use un_core::laws::steps_reply;
 use un_json::read_request;
 use un_lines::{Handler, Opened, REPLY_ROOM};
-use un_machine::Applied;
 use un_replies::print_reply;
+use un_schema::Schema;
 use un_schema_json::{SchemaFault, read_schema};
 use un_steps::Steps;
+use un_tiers::Tiers;
 
 /// The network, once a schema has opened it, and the count of the stars that its traces look up.
 #[derive(Drop)]
 pub struct Script<'a, L> {
-    net: Option<Net>,
+    net: Option<Recoverable>,
     steps: &'a mut Steps<L>,
 }
 
@@ -47,6 +50,13 @@ impl<'a, L> Script<'a, L> {
     {
         Script { net: None, steps }
     }
+}
+
+// The network without features under a schema and tiers.
+fn opened(alloc: Global, schema: Schema, tiers: Tiers) -> Result<Recoverable, AllocError>
+    ensures { IfOk result (λ net. net ≡ opening (record { schema = schema; tiers = tiers })) }
+{
+    Recoverable::new(alloc, Net::open(alloc, schema, tiers)?)
 }
 
 // Adds the reply of a query, with its line's end. Want of memory changes nothing.
@@ -73,45 +83,35 @@ fn few_edits(command: &Command)
 // Does a command, or refuses it. Want of memory changes nothing.
 fn apply(
     alloc: Global,
-    net: &mut Net,
-    command: &Command,
+    net: &mut Recoverable,
+    command: Command,
     out: &mut Vec<u8>,
 ) -> Result<(), AllocError>
     requires room { vec_len out.old + REPLY_ROOM ≤ vec_capacity out.old }
     ensures reply { OnOk result (out.new.items
-        ≡ out.old.items ++ (print (command_reply net.old command.now) ++ 10 ∷ [])) }
-    ensures state { OnOk result (net.new ≡ state_after net.old command.now) }
+        ≡ out.old.items ++ (print (command_reply net.old command) ++ 10 ∷ [])) }
+    ensures state { OnOk result (net.new ≡ state_after net.old command) }
     ensures err { OnErr result ((net.new ≡ net.old) × (out.new.items ≡ out.old.items)) }
     ensures capacity { vec_capacity out.old ≤ vec_capacity out.new }
 {
     steps_reply();
-    few_edits(command);
-    match net.step(alloc, command)? {
-        Applied::Done {
-            next,
-            reply,
-            mark: _mark,
-        } => {
-            print_line(&reply, out);
-            *net = next;
-        }
-        Applied::Refused { reply } => {
-            print_line(&reply, out);
-        }
-    }
+    few_edits(&command);
+    let reply = net.step(alloc, command)?;
+    print_line(&reply, out);
     Ok(())
 }
 
 // Answers a query.
 fn tell<L>(
     alloc: Global,
-    net: &Net,
+    net: &mut Recoverable,
     query: &Query,
     steps: &mut Steps<L>,
     out: &mut Vec<u8>,
 ) -> Result<(), AllocError>
     ensures reply { OnOk result (out.new.items
-        ≡ out.old.items ++ (print (answer net.now query.now) ++ 10 ∷ [])) }
+        ≡ out.old.items ++ (print (answer net.old query.now) ++ 10 ∷ [])) }
+    ensures state { net.new ≡ net.old }
     ensures err { OnErr result (out.new.items ≡ out.old.items) }
     ensures capacity { vec_capacity out.old ≤ vec_capacity out.new }
 {
@@ -131,7 +131,7 @@ fn refuse_served(out: &mut Vec<u8>)
 // Answers a line. Want of memory changes nothing.
 fn answer<L>(
     alloc: Global,
-    net: &mut Net,
+    net: &mut Recoverable,
     line: &[u8],
     steps: &mut Steps<L>,
     out: &mut Vec<u8>,
@@ -144,7 +144,7 @@ fn answer<L>(
     ensures capacity { vec_capacity out.old ≤ vec_capacity out.new }
 {
     match read_request(alloc, line) {
-        Ok(Request::Command(command)) => apply(alloc, net, &command, out),
+        Ok(Request::Command(command)) => apply(alloc, net, command, out),
         Ok(Request::Query(query)) => tell(alloc, net, &query, steps, out),
         Ok(Request::Past(_)) => {
             refuse_served(out);
@@ -177,7 +177,7 @@ impl<L> Handler for Script<'_, L> {
 
     fn open(&mut self, alloc: Global, line: &[u8], out: &mut Vec<u8>) -> Opened {
         match read_schema(alloc, line) {
-            Ok((schema, tiers)) => match Net::open(alloc, schema, tiers) {
+            Ok((schema, tiers)) => match opened(alloc, schema, tiers) {
                 Ok(net) => {
                     self.net = Some(net);
                     Opened::Open
