@@ -22,43 +22,29 @@ impl EditWord {
     ghost use Rattle.std.specs.Prelude.{◌≡◌};
     ghost use Rattle.un_ask.specs.Words.{edit_text, edit_named};
 
+    const ALL: [EditWord; 15] = [
+        EditWord::Insert,
+        EditWord::Reshape,
+        EditWord::Attrs,
+        EditWord::Kind,
+        EditWord::Path,
+        EditWord::Flow,
+        EditWord::Ends,
+        EditWord::Note,
+        EditWord::Delete,
+        EditWord::Connect,
+        EditWord::Contain,
+        EditWord::Attach,
+        EditWord::Detach,
+        EditWord::Controller,
+        EditWord::Uncontroller,
+    ];
+
     /// The word that is written so, if there is one.
     pub fn named(text: &str) -> Option<EditWord>
         ensures { result ≡ edit_named text.now }
     {
-        if text == "insert" {
-            Some(EditWord::Insert)
-        } else if text == "reshape" {
-            Some(EditWord::Reshape)
-        } else if text == "attrs" {
-            Some(EditWord::Attrs)
-        } else if text == "kind" {
-            Some(EditWord::Kind)
-        } else if text == "path" {
-            Some(EditWord::Path)
-        } else if text == "flow" {
-            Some(EditWord::Flow)
-        } else if text == "ends" {
-            Some(EditWord::Ends)
-        } else if text == "note" {
-            Some(EditWord::Note)
-        } else if text == "delete" {
-            Some(EditWord::Delete)
-        } else if text == "connect" {
-            Some(EditWord::Connect)
-        } else if text == "contain" {
-            Some(EditWord::Contain)
-        } else if text == "attach" {
-            Some(EditWord::Attach)
-        } else if text == "detach" {
-            Some(EditWord::Detach)
-        } else if text == "controller" {
-            Some(EditWord::Controller)
-        } else if text == "uncontroller" {
-            Some(EditWord::Uncontroller)
-        } else {
-            None
-        }
+        Self::ALL.iter().find(|word| text == word.text()).copied()
     }
 
     /// The word as requests and replies write it.
