@@ -1,9 +1,9 @@
 //! The nodes that a walk has found, each once, in the order in which they were found.
 
-ghost use Rattle.std.specs.Prelude.{◌≡◌, ℕ, ◌<◌, List, [], length, slice_get, Some, OnOk, OnErr, IfOk};
+ghost use Rattle.std.specs.Prelude.{◌≡◌, ℕ, ◌<◌, ◌≤◌, ◌-◌, List, [], length, slice_get, Some, All, IsTrue, OnOk, OnErr, IfOk};
 ghost use Rattle.std.specs.List.{IsDistinct};
 ghost use Rattle.un_defs.specs.Orders.{same_node};
-ghost use Rattle.un_walk.specs.Growth.{with_node};
+ghost use Rattle.un_walk.specs.Growth.{has_node, with_node};
 
 use crate::hasher::NumberHasher;
 use indexmap::IndexSet;
@@ -16,10 +16,12 @@ use un_defs::Node;
 #[derive(Drop)]
 pub(crate) struct Found {
     nodes: IndexSet<Node, BuildHasherDefault<NumberHasher>>,
+    // From which place each node was found.
+    origins: Vec<usize>,
 }
 
 impl Model for Found {
-    ghost use Rattle.std.specs.Prelude.{List};
+    ghost use Rattle.std.specs.Prelude.{List, ◌<◌, length, All};
     ghost use Rattle.std.specs.List.{IsDistinct};
     ghost use Rattle.un_defs.specs.Orders.{same_node};
     ghost use Rattle.un_defs.specs.declared.port.Node.{Node};
@@ -28,7 +30,8 @@ impl Model for Found {
 
     ghost view = { λ f. f.nodes.keys };
 
-    ghost invariant = { λ f. IsDistinct same_node f.nodes.keys };
+    ghost invariant = { λ f. IsDistinct same_node f.nodes.keys
+        × All (λ place. place < length f.nodes.keys) f.origins.items };
 }
 
 impl Found {
@@ -37,6 +40,7 @@ impl Found {
     {
         Found {
             nodes: IndexSet::with_hasher(alloc, BuildHasherDefault::new()),
+            origins: Vec::new(alloc),
         }
     }
 
@@ -56,11 +60,27 @@ impl Found {
         self.nodes.as_slice()[place]
     }
 
-    /// Adds the node at the end, unless it is there.
-    pub(crate) fn add(&mut self, node: Node) -> Result<(), AllocError>
+    // Whether the node at the place was found from this one. No look-up in the hash table is needed.
+    fn was_found_from(&self, place: usize, node: Node) -> bool
+        ensures { IsTrue result → IsTrue (has_node self.now node) }
+    {
+        match self.origins.get(place) {
+            Some(origin) => self.nodes.as_slice()[*origin] == node,
+            None => false,
+        }
+    }
+
+    /// Adds the node at the end, unless it is there. It is a start, and `from` is 0, or a link leads to it from the node at the place `from`.
+    pub(crate) fn add(&mut self, node: Node, from: usize) -> Result<(), AllocError>
+        requires { from ≤ length self.old - 1 }
         ensures { OnOk result (self.new ≡ with_node self.old node) }
     {
-        self.nodes.insert(node)?;
+        if self.was_found_from(from, node) {
+            return Ok(());
+        }
+        if self.nodes.insert(node)? {
+            self.origins.push(from)?;
+        }
         Ok(())
     }
 }

@@ -15,9 +15,10 @@
 //! first the starts, then each further node as it is found. It takes the nodes in this order. Of each it asks for the star and the least
 //! dirty area at its point ([`site::Sites`]), which looks them up unless it remembers them: the nodes at one point are reached at several
 //! moments. If a walk may go on from the node, it adds what the node's links lead to, unless it is there ([`walk::visit`],
-//! [`traversal::follow`]). It is done once it has taken the last node. The dirt is kept on the way: the least so far, by area, then port
-//! ([`dirt::dirt_after`]). So are the nodes with their entries, which callers need for their results. [`walk::reach`] is the same without the
-//! entries.
+//! [`traversal::follow`]). Links mostly stand at both their ends, so most nodes have one back to where they were found from. The set
+//! remembers that place, and a link back needs no look-up. It is done once it has taken the last node. The dirt is kept on the way: the
+//! least so far, by area, then port ([`dirt::dirt_after`]). So are the nodes with their entries, which callers need for their results.
+//! [`walk::reach`] is the same without the entries.
 //!
 //! # Why that is enough
 //!
@@ -34,8 +35,8 @@
 //! # What it costs
 //!
 //! At most one look-up of an area and one of a star for each node that is reached, mostly one for each point, and one look-up in a hash table
-//! for each link of an open node that the mode takes. Only where a tier is asked for and a path leads to another point is one more star
-//! looked up. Sorting the nodes takes n log n comparisons.
+//! for each link of an open node that the mode takes, save those back to the node from which it was found. Only where a tier is asked for and
+//! a path leads to another point is one more star looked up. Sorting the nodes takes n log n comparisons.
 #![tactic(auto)]
 
 mod dirt;

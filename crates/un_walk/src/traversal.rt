@@ -1,6 +1,6 @@
 //! The links by which a walk goes on from a node.
 
-ghost use Rattle.std.specs.Prelude.{◌≡◌, ◌≤◌, ◌&&◌, ◌⊎◌, not, Some, None, IsTrue, OnOk};
+ghost use Rattle.std.specs.Prelude.{◌≡◌, ◌<◌, ◌≤◌, ◌&&◌, ◌⊎◌, not, length, Some, None, IsTrue, OnOk};
 ghost use Rattle.std.specs.List.{list_any};
 ghost use Rattle.un_geom.specs.Places.{same_point};
 ghost use Rattle.un_defs.specs.Ground.{entry, ties};
@@ -15,10 +15,11 @@ use un_defs::{Barriers, Ground, LinkName, Mode, Node, Spot, Star, Tie};
 use un_geom::Point;
 use un_steps::Steps;
 
-/// Where a walk stands: a node, the star at its point, and the entry that the star has for it.
+/// Where a walk stands: a node, its number among those found, the star at its point, and the entry that the star has for it.
 #[derive(Clone, Copy)]
 pub(crate) struct Place<'a> {
     pub(crate) node: Node,
+    pub(crate) number: usize,
     pub(crate) star: &'a Star,
     pub(crate) spot: &'a Spot,
 }
@@ -118,6 +119,7 @@ pub(crate) fn follow<G: Ground, L>(
     found: &mut Found,
     steps: &mut Steps<L>,
 ) -> Result<(), AllocError>
+    requires found { place.now.number < length found.old }
     requires star { place.now.star.now ≡ (G.stars_and_areas over.now).stars place.now.node.at }
     requires entry { entry (G.stars_and_areas over.now) place.now.node ≡ Some place.now.spot.now }
     ensures next { OnOk result (Grows found.old found.new
@@ -129,7 +131,7 @@ pub(crate) fn follow<G: Ground, L>(
 {
     for tie in place.spot.ties.as_slice() {
         if goes_by(over, place, tie, mode, barriers, steps) {
-            found.add(tie.to)?;
+            found.add(tie.to, place.number)?;
         }
     }
     Ok(())

@@ -1,6 +1,6 @@
 //! The walk itself: the nodes that were found are taken in order, each once.
 
-ghost use Rattle.std.specs.Prelude.{◌≡◌, ◌≤◌, ◌+◌, ◌&&◌, [], length, IfOk, OnOk};
+ghost use Rattle.std.specs.Prelude.{◌≡◌, ◌<◌, ◌≤◌, ◌+◌, ◌&&◌, [], length, IfOk, OnOk};
 ghost use Rattle.std.specs.List.{list_any};
 ghost use Rattle.un_defs.specs.Ground.{entry};
 ghost use Rattle.un_defs.specs.Orders.{same_node};
@@ -58,7 +58,7 @@ fn found_starts(alloc: Global, starts: &[Node]) -> Result<Found, AllocError>
 {
     let mut found = Found::new(alloc);
     for start in starts {
-        found.add(*start)?;
+        found.add(*start, 0)?;
     }
     Ok(found)
 }
@@ -75,16 +75,18 @@ fn is_shut_by_barrier(barriers: &Barriers, spot: &Spot) -> bool
     barriers.are_met_by(spot)
 }
 
-/// Adds the nodes to which a walk goes on from this one.
+/// Adds the nodes to which a walk goes on from this one, which has the number among those found.
 fn visit<G: Ground, L>(
     over: &G,
     one: &Seen,
+    number: usize,
     site: &Site,
     mode: Mode,
     barriers: &Barriers,
     found: &mut Found,
     steps: &mut Steps<L>,
 ) -> Result<(), AllocError>
+    requires found { number < length found.old }
     requires site { IsSite (G.stars_and_areas over.now) site.now }
     requires at { site.now.at ≡ one.now.node.at }
     requires entry { spot_of one.now ≡ entry (G.stars_and_areas over.now) one.now.node }
@@ -112,7 +114,12 @@ fn visit<G: Ground, L>(
     }
     follow(
         over,
-        &Place { node, star, spot },
+        &Place {
+            node,
+            number,
+            star,
+            spot,
+        },
         mode,
         barriers,
         found,
@@ -154,7 +161,7 @@ pub fn reach_seen<'a, G: Ground, L>(
         let spot = site.entry(node.port);
         let one = Seen { node, spot };
         least = dirt_after(least, site.area, node.port);
-        visit(over, &one, &site, mode, barriers, &mut found, steps)?;
+        visit(over, &one, next, &site, mode, barriers, &mut found, steps)?;
         seen.push(one)?;
         next += 1;
     }

@@ -1,4 +1,4 @@
-use Rattle.std.proofs.Common.{◌≡◌, ◌≤◌, ℕ, ◌+◌, pos, ◌||◌, not, Bool, true, false, List, [], take, take_all, get_or, add-one, Contains, refl, sym, ap, subst, ◌∙◌, arith}
+use Rattle.std.proofs.Common.{◌≡◌, ◌≤◌, ℕ, ◌+◌, pos, ◌||◌, not, Bool, true, false, List, [], take, take_all, get_or, add-one, length, length-append, Contains, refl, sym, ap, subst, ◌∙◌, arith}
 use Rattle.std.specs.List.{list_any}
 use Rattle.std.specs.Option.{option_map_or}
 use Rattle.un_defs.specs.declared.port.Node.{Node}
@@ -58,6 +58,10 @@ loop-tie-preserved g c =
         counted = counted;
       }
     ]
+
+pub add-requires : goal.add-requires
+add-requires g c =
+    omega (arith, c.requires.found, ap length c.loop-tie.invariant.grown.is, length-append c.args.found.now c.loop-tie.invariant.grown.more)
 
 pub returns-clause-next : goal.returns-clause-next
 returns-clause-next g c =

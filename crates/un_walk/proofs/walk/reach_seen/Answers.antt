@@ -37,6 +37,9 @@ loop-next-init g c = record {
 entry_here : (G : Ground) (s : Site) (n : Node) (o : Option Spot) → IsSite G s → s.at ≡ n.at → o ≡ entry_in (star_of s) n.port → o ≡ entry G n
 entry_here G s n o is at e = e ∙ ap (λ star. entry_in star n.port) (is.star ∙ ap G.stars at)
 
+pub visit-requires-clause-found : goal.visit-requires-clause-found
+visit-requires-clause-found g c = omega (arith, c.loop-next-test.true, c.len.ensures.len)
+
 pub visit-requires-clause-at : goal.visit-requires-clause-at
 visit-requires-clause-at g c = c.at-site.ensures.at
 
