@@ -178,8 +178,9 @@ pub(crate) fn spots_here<R: Rows>(
     ensures { IfOk result (λ spots. spots.items
         ≡ spots_here (R.catalog rows.now) (R.features rows.now) meeting.now.at) }
 {
-    let mut spots = Vec::new(alloc);
-    for port in rows.ports_at(meeting.at) {
+    let ports = rows.ports_at(meeting.at);
+    let mut spots = Vec::with_capacity(alloc, ports.len())?;
+    for port in ports {
         add_spot(&mut spots, alloc, rows, meeting, *port)?;
     }
     Ok(spots)

@@ -11,7 +11,7 @@ use crate::meet::{End, Joint, Meeting, chosen, end_here, joins, only};
 use crate::order::rising_ties;
 use crate::permit::permitted;
 use std::alloc::{AllocError, Global};
-use un_defs::link::Ties;
+use un_defs::link::{TieList, Ties};
 use un_defs::{Assoc, AssocKind, Flow, LinkName, Node, Port, Row, Rows, Tie};
 use un_schema::{Class, Schema};
 use un_terms::TermConfig;
@@ -48,7 +48,7 @@ fn tie(
     None
 }
 
-fn add(ties: &mut Vec<Tie>, tie: Option<Tie>) -> Result<(), AllocError>
+fn add(ties: &mut TieList, tie: Option<Tie>) -> Result<(), AllocError>
     ensures { OnOk result (ties.new.items ≡ ties.old.items ++ option_to_list tie) }
 {
     if let Some(tie) = tie {
@@ -182,7 +182,7 @@ fn association<R: Rows>(rows: &R, node: Node, assoc: &Assoc) -> Option<Tie>
 }
 
 /// Adds the segment of a line that ends at a vertex.
-fn add_segment_before(ties: &mut Vec<Tie>, node: Node, line: &Row) -> Result<(), AllocError>
+fn add_segment_before(ties: &mut TieList, node: Node, line: &Row) -> Result<(), AllocError>
     ensures { OnOk result (ties.new.items ≡ ties.old.items
         ++ flat_map (ties_by node) (segment_before line.now node.port.number)) }
 {
@@ -193,7 +193,7 @@ fn add_segment_before(ties: &mut Vec<Tie>, node: Node, line: &Row) -> Result<(),
 }
 
 /// Adds the segment of a line that begins at a vertex.
-fn add_segment_after(ties: &mut Vec<Tie>, node: Node, line: &Row) -> Result<(), AllocError>
+fn add_segment_after(ties: &mut TieList, node: Node, line: &Row) -> Result<(), AllocError>
     requires { IsTrue (is_line line.now.class) }
     ensures { OnOk result (ties.new.items ≡ ties.old.items
         ++ flat_map (ties_by node) (segment line.now node.port.number)) }
@@ -205,7 +205,7 @@ fn add_segment_after(ties: &mut Vec<Tie>, node: Node, line: &Row) -> Result<(), 
 }
 
 /// Adds the two segments at a vertex of a line.
-fn add_segments(ties: &mut Vec<Tie>, node: Node, row: &Row) -> Result<(), AllocError>
+fn add_segments(ties: &mut TieList, node: Node, row: &Row) -> Result<(), AllocError>
     ensures { OnOk result (ties.new.items ≡ ties.old.items ++ segment_ties node row.now) }
 {
     if row.class != Class::Line {
@@ -217,7 +217,7 @@ fn add_segments(ties: &mut Vec<Tie>, node: Node, row: &Row) -> Result<(), AllocE
 
 /// Adds the paths from a terminal of a device to each other one.
 fn add_paths_of(
-    ties: &mut Vec<Tie>,
+    ties: &mut TieList,
     config: &TermConfig,
     number: usize,
     node: Node,
@@ -238,7 +238,7 @@ fn add_paths_of(
 
 /// Adds the links between the ends at the node's point and the only device or junction there, where it is of the node's row.
 fn add_all_coins(
-    ties: &mut Vec<Tie>,
+    ties: &mut TieList,
     schema: &Schema,
     meeting: &Meeting,
     node: Node,
@@ -256,7 +256,7 @@ fn add_all_coins(
 
 /// Adds the links by associations.
 fn add_associations<R: Rows>(
-    ties: &mut Vec<Tie>,
+    ties: &mut TieList,
     alloc: Global,
     rows: &R,
     node: Node,
@@ -277,12 +277,7 @@ fn is_device(class: Class) -> bool
 }
 
 /// Adds the paths from a terminal to each other one.
-fn add_paths<R: Rows>(
-    ties: &mut Vec<Tie>,
-    rows: &R,
-    node: Node,
-    row: &Row,
-) -> Result<(), AllocError>
+fn add_paths<R: Rows>(ties: &mut TieList, rows: &R, node: Node, row: &Row) -> Result<(), AllocError>
     requires { row_of (R.features rows.now) node.port.feature ≡ Some row.now }
     ensures { OnOk result (ties.new.items ≡ ties.old.items ++ path_ties (R.catalog rows.now) node row.now) }
 {
@@ -294,7 +289,7 @@ fn add_paths<R: Rows>(
 
 /// Adds the paths from a terminal of a device to each other one.
 fn add_device_paths<R: Rows>(
-    ties: &mut Vec<Tie>,
+    ties: &mut TieList,
     rows: &R,
     node: Node,
     row: &Row,
@@ -315,7 +310,7 @@ fn add_device_paths<R: Rows>(
 
 /// Adds the link of a vertex with the only device or junction at its point.
 fn add_own_coin<R: Rows>(
-    ties: &mut Vec<Tie>,
+    ties: &mut TieList,
     rows: &R,
     meeting: &Meeting,
     node: Node,
@@ -335,7 +330,7 @@ fn add_own_coin<R: Rows>(
 
 /// Adds the links between vertices and the only device or junction at the node's point.
 fn add_coins<R: Rows>(
-    ties: &mut Vec<Tie>,
+    ties: &mut TieList,
     rows: &R,
     meeting: &Meeting,
     node: Node,
@@ -356,6 +351,20 @@ fn add_coins<R: Rows>(
     Ok(())
 }
 
+/// How many links a node of the row has at most, apart from those by associations, so that a list of them seldom moves.
+fn room_for_ties(meeting: &Meeting, node: Node, row: &Row) -> usize {
+    if row.class == Class::Line {
+        let vertices = row.shape.points().len();
+        let is_outer = node.port.number == 0 || usize::from(node.port.number) + 1 == vertices;
+        return if is_outer { 2 } else { 3 };
+    }
+    meeting
+        .ends
+        .len()
+        .saturating_add(usize::from(row.terminals))
+        .saturating_sub(1)
+}
+
 /// The links of a node of a row, in the order of their names.
 pub(crate) fn ties_of<R: Rows>(
     alloc: Global,
@@ -370,7 +379,7 @@ pub(crate) fn ties_of<R: Rows>(
     ensures { IfOk result (λ ties. ties
         ≡ rising tie_cmp (node_ties (R.catalog rows.now) (R.features rows.now) node row.now)) }
 {
-    let mut ties = Vec::new(alloc);
+    let mut ties = TieList::with_capacity(alloc, room_for_ties(meeting, node, row))?;
     add_segments(&mut ties, node, row)?;
     add_paths(&mut ties, rows, node, row)?;
     add_coins(&mut ties, rows, meeting, node)?;

@@ -5,6 +5,7 @@ ghost use Rattle.un_defs.specs.Orders.{rising, tie_cmp, error_cmp};
 ghost use Rattle.un_star.specs.Named.{named};
 
 use std::alloc::{AllocError, Global};
+use un_defs::link::TieList;
 use un_defs::order::rising;
 use un_defs::{LinkName, Tie, TopoError};
 
@@ -57,7 +58,7 @@ fn are_rising(ties: &[Tie]) -> bool
 }
 
 /// The links in the order of their names. Links that rise already stay as they are.
-pub(crate) fn rising_ties(alloc: Global, ties: Vec<Tie>) -> Result<Vec<Tie>, AllocError>
+pub(crate) fn rising_ties(alloc: Global, ties: TieList) -> Result<TieList, AllocError>
     ensures { IfOk result (λ in_order. in_order.items ≡ rising tie_cmp ties.items) }
 {
     if are_rising(ties.as_slice()) {
@@ -66,7 +67,7 @@ pub(crate) fn rising_ties(alloc: Global, ties: Vec<Tie>) -> Result<Vec<Tie>, All
     let all = with_names(alloc, ties.as_slice())?;
     let all = rising(alloc, all.as_slice())?;
     let sorted = without_names(alloc, all.as_slice())?;
-    Ok(sorted)
+    Ok(TieList::from_vec(sorted))
 }
 
 /// The errors in their order.

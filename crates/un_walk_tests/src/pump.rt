@@ -10,7 +10,7 @@ ghost use Rattle.un_defs.specs.Star.{empty_star};
 use std::alloc::{AllocError, Global};
 use std::cell::Cell;
 use un_attrs::{Attrs, Cats};
-use un_defs::link::Ties;
+use un_defs::link::{TieList, Ties};
 use un_defs::star::{Spots, TopoErrors};
 use un_defs::{Ground, Ids, LinkName, Node, Port, Spot, Star, Tie};
 use un_geom::Point;
@@ -145,7 +145,7 @@ fn spot(alloc: Global, node: Node, ties: &[Tie]) -> Result<Spot, AllocError> {
     };
     Ok(Spot {
         port: node.port,
-        ties: Ties::new(ties.to_vec(alloc)?),
+        ties: Ties::new(TieList::from_slice(alloc, ties)?),
         kind: 0,
         class: Class::Device,
         controller: None,

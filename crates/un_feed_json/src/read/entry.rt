@@ -10,7 +10,7 @@ use crate::read::link::{Link, base_at};
 use serde_json::{Map, Value};
 use std::alloc::{AllocError, Global};
 use un_attrs::Attrs;
-use un_defs::link::Ties;
+use un_defs::link::{TieList, Ties};
 use un_defs::star::Spots;
 use un_defs::{Controller, Ids, Port, Spot};
 use un_json::form::Form;
@@ -171,7 +171,7 @@ fn ties_at(alloc: Global, place: usize, value: &Value) -> Result<Option<Ties>, A
     ensures { IfOk result (λ ties. ties ≡ field place (list_of tie_of) (view value.now)) }
 {
     match list_at::<Link>(alloc, place, value)? {
-        Some(items) => Ok(Some(Ties::new(items))),
+        Some(items) => Ok(Some(Ties::new(TieList::from_vec(items)))),
         None => Ok(None),
     }
 }

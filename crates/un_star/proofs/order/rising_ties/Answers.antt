@@ -7,5 +7,5 @@ use Rattle.un_star.proofs.order.rising_ties.Goals as goal
 
 pub returns : goal.returns
 returns c =
-    c.in_ok-sorted.ensures ∙ ap (map (λ b. b.tie)) (c.as_slice-4.ensures.value ∙ c.in_ok-all-2.ensures
-    ∙ ap (rising name_order.ghosts.cmp) (c.as_slice-3.ensures.value ∙ c.in_ok-all.ensures ∙ ap (map named) c.as_slice-2.ensures.value)) ∙ rising_by_name c.args.ties.items
+    c.from_vec.ensures.items ∙ c.in_ok-sorted.ensures ∙ ap (map (λ b. b.tie)) (c.as_slice-4.ensures.value ∙ c.in_ok-all-2.ensures
+    ∙ ap (rising name_order.ghosts.cmp) (c.as_slice-3.ensures.value ∙ c.in_ok-all.ensures ∙ ap (map named) c.as_slice-2.ensures)) ∙ rising_by_name c.args.ties.items
