@@ -116,7 +116,8 @@ pub(crate) fn links_between(
     ensures whole { IfOk result (λ links. (x : LinkName) (i j : ℕ)
         → IsLinkedAt tier nodes.now x i j → IsNamedIn links x) }
 {
-    let mut links = IndexMap::with_hasher(alloc, BuildHasherDefault::new());
+    let hasher = BuildHasherDefault::new();
+    let mut links = IndexMap::with_capacity_and_hasher(alloc, nodes.len(), hasher)?;
     for at in 0..nodes.len() {
         add_links(nodes, tier, at, &mut links)?;
     }

@@ -48,7 +48,7 @@ pub(crate) fn open_nodes<'a, G: Ground>(
     ensures { IfOk result (λ nodes.
         AreOpenNodes (G.stars_and_areas over.now) barriers.now (seen_nodes reached.now) nodes.items) }
 {
-    let mut nodes = Vec::new(alloc);
+    let mut nodes = Vec::with_capacity(alloc, reached.len())?;
     for one in reached {
         if let Some(spot) = spot_unless_barrier(over, one, barriers) {
             nodes.push(OpenNode {
