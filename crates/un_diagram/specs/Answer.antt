@@ -1,5 +1,5 @@
 -- What a query for a diagram answers of the nodes that it reaches.
-use Rattle.std.specs.Prelude.{◌≡◌, List, Option, Some, None}
+use Rattle.std.specs.Prelude.{◌≡◌, List, Option, Some, None, length, ℕ}
 use Rattle.un_defs.specs.declared.port.Node.{Node}
 use Rattle.un_defs.specs.declared.walk.Mode.TheVariants.{Any}
 use Rattle.un_defs.specs.declared.walk.Dirt.{Dirt}
@@ -16,6 +16,10 @@ use Rattle.un_diagram.specs.DiagramLists.{diagram_of}
 -- the nodes in which a walk from a start ends
 abbrev pub IsReachOf : Ground → DiagramAsk → List Node → Type 0
 IsReachOf G ask = IsReach (leads G ask.barriers Any) ask.starts
+
+-- what holds of the count of the nodes that the query reaches
+abbrev pub OnReachCount : Ground → DiagramAsk → (ℕ → Type 0) → Type 0
+OnReachCount G ask P = (reached : List Node) → IsReachOf G ask reached → P (length reached)
 
 -- where walks from the starts meet no dirt, the nodes that they reach are linked as a diagram needs it
 abbrev pub AreLinkedOnCleanGround : Ground → DiagramAsk → Type 0

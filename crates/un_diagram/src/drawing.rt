@@ -1,9 +1,9 @@
 //! The query for a diagram.
 
-ghost use Rattle.std.specs.Prelude.{◌≡◌, ◌≤◌, ◌+◌, List, length, filter_map, None, IfOk, OnOk};
+ghost use Rattle.std.specs.Prelude.{◌≡◌, ◌≤◌, ◌+◌, filter_map, None, IfOk, OnOk};
 ghost use Rattle.std.specs.List.{zip};
 ghost use Rattle.un_defs.specs.declared.port.Node.{Node};
-ghost use Rattle.un_diagram.specs.Answer.{IsReachOf, AreLinkedOnCleanGround, diagram_given_dirt, IsAnswer};
+ghost use Rattle.un_diagram.specs.Answer.{OnReachCount, AreLinkedOnCleanGround, diagram_given_dirt, IsAnswer};
 ghost use Rattle.un_diagram.specs.Places.{AreReached, port_if_kept};
 
 use crate::colours::{Colouring, coloured};
@@ -86,8 +86,8 @@ pub fn diagram<G: Ground, L>(
     ensures answer { IfOk result (IsAnswer (G.stars_and_areas over.now) ask.now) }
 
     // No more stars are looked up than nodes are reached.
-    ensures ticks { (reached : List Node) → IsReachOf (G.stars_and_areas over.now) ask.now reached
-        → OnOk result (steps.new ≤ steps.old + length reached) }
+    ensures ticks { OnReachCount (G.stars_and_areas over.now) ask.now
+        (λ count. OnOk result (steps.new ≤ steps.old + count)) }
     ensures never_falls { steps.old ≤ steps.new }
 {
     let reached = reach_seen(

@@ -1,5 +1,5 @@
 -- What a trace for isolation answers of the nodes that it reached.
-use Rattle.std.specs.Prelude.{◌≡◌, List, Option, Some, None, IsSome, IsTrue}
+use Rattle.std.specs.Prelude.{◌≡◌, List, Option, Some, None, IsSome, IsTrue, length, ℕ}
 use Rattle.un_defs.specs.declared.port.Port.{Port}
 use Rattle.un_defs.specs.declared.port.Node.{Node}
 use Rattle.un_defs.specs.declared.walk.Mode.TheVariants.{Any}
@@ -8,6 +8,7 @@ use Rattle.un_defs.specs.declared.refusal.Refusal.TheVariants.{NotIsolable}
 use Rattle.un_defs.specs.Ground.{Ground}
 use Rattle.un_defs.specs.Reach.{IsReach, leads, dirt}
 use Rattle.un_defs.specs.Linked.{HaveOwnPorts}
+use Rattle.un_walk.specs.Ticks.{IsLookedUpOnce}
 use Rattle.un_ask.specs.declared.trace.TraceKind.TheVariants.{Isolation as IsolationKind}
 use Rattle.un_ask.specs.declared.typed.TypedAsk.{TypedAsk}
 use Rattle.un_ask.specs.declared.reply.Reply.{Reply}
@@ -24,6 +25,10 @@ isolation_of G ask = record { over = G; barriers = ask.barriers; isolators = ask
 -- the nodes in which a walk of the trace ends, isolating ports being open
 abbrev pub IsReachOf : Ground → TypedAsk → List Node → Type 0
 IsReachOf G ask = IsReach (leads G ask.barriers Any) ask.starts
+
+-- what holds of the count of the nodes that the trace reaches, where no star is looked up twice
+abbrev pub OnReachCount : Ground → TypedAsk → (ℕ → Type 0) → Type 0
+OnReachCount G ask P = (reached : List Node) → IsReachOf G ask reached → IsLookedUpOnce G ask.barriers → P (length reached)
 
 -- a trace for isolation, in consistent mode
 pub record IsForIsolation (ask : TypedAsk) : Type 0 where

@@ -1,11 +1,10 @@
 //! The trace itself.
 
-ghost use Rattle.std.specs.Prelude.{◌≡◌, ◌≤◌, ◌+◌, List, length, None, IfOk, OnOk};
+ghost use Rattle.std.specs.Prelude.{◌≡◌, ◌≤◌, ◌+◌, None, IfOk, OnOk};
 ghost use Rattle.un_defs.specs.declared.port.Node.{Node};
 ghost use Rattle.un_defs.specs.Reach.{dirt};
-ghost use Rattle.un_walk.specs.Ticks.{IsLookedUpOnce};
 ghost use Rattle.un_isolate.specs.Entries.{AreSeen};
-ghost use Rattle.un_isolate.specs.Answer.{IsReachOf, IsForIsolation, IsFit, IsFitOnCleanGround, not_isolable, isolation_given_dirt, IsAnswer};
+ghost use Rattle.un_isolate.specs.Answer.{IsReachOf, OnReachCount, IsForIsolation, IsFit, IsFitOnCleanGround, not_isolable, isolation_given_dirt, IsAnswer};
 
 use crate::cut::cut_off;
 use crate::marks::{both_marks, marked_nodes};
@@ -72,9 +71,8 @@ pub fn isolate<G: Ground, L>(
     ensures answer { IfOk result (IsAnswer (G.stars_and_areas over.now) ask.now) }
 
     // No more stars are looked up than nodes are reached.
-    ensures ticks { (reached : List Node) → IsReachOf (G.stars_and_areas over.now) ask.now reached
-        → IsLookedUpOnce (G.stars_and_areas over.now) ask.now.barriers
-        → OnOk result (steps.new ≤ steps.old + length reached) }
+    ensures ticks { OnReachCount (G.stars_and_areas over.now) ask.now
+        (λ count. OnOk result (steps.new ≤ steps.old + count)) }
     ensures never_falls { steps.old ≤ steps.new }
 {
     let reached = reach_seen(

@@ -1,5 +1,5 @@
 -- What a trace for loops answers of the nodes that it reached.
-use Rattle.std.specs.Prelude.{◌≡◌, List, Option, Some, None, IsTrue}
+use Rattle.std.specs.Prelude.{◌≡◌, List, Option, Some, None, IsTrue, length, ℕ}
 use Rattle.un_defs.specs.declared.port.Node.{Node}
 use Rattle.un_defs.specs.declared.walk.Mode.TheVariants.{Any}
 use Rattle.un_defs.specs.declared.walk.Barriers.{Barriers}
@@ -7,6 +7,7 @@ use Rattle.un_defs.specs.declared.walk.Dirt.{Dirt}
 use Rattle.un_defs.specs.Ground.{Ground}
 use Rattle.un_defs.specs.Reach.{IsReach, leads, dirt}
 use Rattle.un_defs.specs.Linked.{AreLinked}
+use Rattle.un_walk.specs.Ticks.{IsLookedUpOnce}
 use Rattle.un_ask.specs.declared.trace.TraceKind.TheVariants.{Loops as LoopsKind}
 use Rattle.un_ask.specs.declared.typed.TypedAsk.{TypedAsk}
 use Rattle.un_ask.specs.declared.reply.Reply.{Reply}
@@ -18,6 +19,10 @@ use Rattle.un_loops.specs.LoopList.{loop_segments}
 -- the nodes in which a walk of the trace ends
 abbrev pub IsReachOf : Ground → TypedAsk → List Node → Type 0
 IsReachOf G ask = IsReach (leads G ask.barriers Any) ask.starts
+
+-- what holds of the count of the nodes that the trace reaches, where no star is looked up twice
+abbrev pub OnReachCount : Ground → TypedAsk → (ℕ → Type 0) → Type 0
+OnReachCount G ask P = (reached : List Node) → IsReachOf G ask reached → IsLookedUpOnce G ask.barriers → P (length reached)
 
 -- a trace for loops, in consistent mode
 pub record IsForLoops (ask : TypedAsk) : Type 0 where

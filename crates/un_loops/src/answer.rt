@@ -1,12 +1,10 @@
 //! The trace itself.
 
-ghost use Rattle.std.specs.Prelude.{◌≡◌, ◌≤◌, ◌+◌, List, length, None, IfOk, OnOk};
-ghost use Rattle.un_defs.specs.declared.port.Node.{Node};
+ghost use Rattle.std.specs.Prelude.{◌≡◌, ◌≤◌, ◌+◌, None, IfOk, OnOk};
 ghost use Rattle.un_defs.specs.Reach.{dirt};
 ghost use Rattle.un_defs.specs.Linked.{AreLinked};
 ghost use Rattle.un_walk.specs.Seen.{nodes_of, HaveEntries};
-ghost use Rattle.un_walk.specs.Ticks.{IsLookedUpOnce};
-ghost use Rattle.un_loops.specs.Answer.{IsReachOf, IsForLoops, AreLinkedOnCleanGround, loops_given_dirt, IsAnswer};
+ghost use Rattle.un_loops.specs.Answer.{IsReachOf, OnReachCount, IsForLoops, AreLinkedOnCleanGround, loops_given_dirt, IsAnswer};
 
 use crate::nodes::open_nodes;
 use crate::segments::loop_segments;
@@ -54,9 +52,8 @@ pub fn loops<G: Ground, L>(
     ensures answer { IfOk result (IsAnswer (G.stars_and_areas over.now) ask.now) }
 
     // No more stars are looked up than nodes are reached.
-    ensures ticks { (reached : List Node) → IsReachOf (G.stars_and_areas over.now) ask.now reached
-        → IsLookedUpOnce (G.stars_and_areas over.now) ask.now.barriers
-        → OnOk result (steps.new ≤ steps.old + length reached) }
+    ensures ticks { OnReachCount (G.stars_and_areas over.now) ask.now
+        (λ count. OnOk result (steps.new ≤ steps.old + count)) }
     ensures never_falls { steps.old ≤ steps.new }
 {
     let reached = reach_seen(

@@ -1,5 +1,5 @@
 -- What queries for a path and for a check answer of the nodes that they reach.
-use Rattle.std.specs.Prelude.{◌≡◌, Bool, List, [], ◌∷◌, Option, Some, None}
+use Rattle.std.specs.Prelude.{◌≡◌, ℕ, Bool, List, [], ◌∷◌, length, Option, Some, None}
 use Rattle.un_defs.specs.declared.port.Node.{Node}
 use Rattle.un_defs.specs.declared.walk.Mode.TheVariants.{Any}
 use Rattle.un_defs.specs.declared.walk.Barriers.{Barriers}
@@ -22,6 +22,10 @@ use Rattle.un_path.specs.Verdict.{is_valid}
 -- the nodes in which a walk from this one ends
 abbrev pub IsReachFrom : Ground → Barriers → Node → List Node → Type 0
 IsReachFrom G B from = IsReach (leads G B Any) (from ∷ [])
+
+-- what holds of the count of these nodes
+abbrev pub OnReachCount : Ground → Barriers → Node → (ℕ → Type 0) → Type 0
+OnReachCount G B from P = (reached : List Node) → IsReachFrom G B from reached → P (length reached)
 
 -- where walks from the node meet no dirt, no two nodes that they reach have one port
 abbrev pub HaveOwnPortsOnCleanGround : Ground → Barriers → Node → Type 0

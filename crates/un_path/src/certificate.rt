@@ -1,13 +1,13 @@
 //! Whether a certificate is valid.
 
-ghost use Rattle.std.specs.Prelude.{◌≡◌, ◌≤◌, ◌+◌, ◌<◌, ℕ, List, map, length, Contains, None, IfOk, OnOk};
+ghost use Rattle.std.specs.Prelude.{◌≡◌, ◌≤◌, ◌+◌, ◌<◌, map, length, Contains, None, IfOk, OnOk};
 ghost use Rattle.std.specs.Bool.{MatchBool};
 ghost use Rattle.std.specs.List.Sorted.{IsStrictlySortedBy};
 ghost use Rattle.un_defs.specs.Orders.{node_cmp};
 ghost use Rattle.un_defs.specs.declared.port.Node.{Node};
 ghost use Rattle.un_defs.specs.declared.walk.Mode.TheVariants.{Any};
 ghost use Rattle.un_defs.specs.Reach.{leads};
-ghost use Rattle.un_path.specs.Answer.{IsReachFrom, HaveOwnPortsOnCleanGround, IsValidOver, IsCheckAnswer};
+ghost use Rattle.un_path.specs.Answer.{OnReachCount, HaveOwnPortsOnCleanGround, IsValidOver, IsCheckAnswer};
 ghost use Rattle.un_path.specs.Checking.{HaveCosts, KeepsHops, EndsAt, HasRightWalk};
 ghost use Rattle.un_path.specs.Costs.{step_cost};
 ghost use Rattle.un_path.specs.Hops.{IsAt, AreReached};
@@ -198,9 +198,8 @@ pub fn check<G: Ground, L>(
     ensures answer { IfOk result (IsCheckAnswer (G.stars_and_areas over.now) ask.now) }
 
     // No more stars are looked up than nodes are reached.
-    ensures ticks { (reached : List Node)
-        → IsReachFrom (G.stars_and_areas over.now) ask.now.barriers ask.now.from reached
-        → OnOk result (steps.new ≤ steps.old + length reached) }
+    ensures ticks { OnReachCount (G.stars_and_areas over.now) ask.now.barriers ask.now.from
+        (λ count. OnOk result (steps.new ≤ steps.old + count)) }
     ensures never_falls { steps.old ≤ steps.new }
 {
     let reached = reach_seen(alloc, over, &[ask.from], Mode::Any, &ask.barriers, steps)?;

@@ -1,8 +1,8 @@
 //! The query for the best walk.
 
-ghost use Rattle.std.specs.Prelude.{◌≡◌, ◌≤◌, ◌+◌, ◌<◌, ℕ, List, [], length, Contains, None, IfOk, OnOk};
+ghost use Rattle.std.specs.Prelude.{◌≡◌, ◌≤◌, ◌+◌, ◌<◌, length, None, IfOk, OnOk};
 ghost use Rattle.un_defs.specs.declared.port.Node.{Node};
-ghost use Rattle.un_path.specs.Answer.{IsReachFrom, HaveOwnPortsOnCleanGround, IsFoundOver, path_of, IsPathAnswer};
+ghost use Rattle.un_path.specs.Answer.{IsReachFrom, OnReachCount, HaveOwnPortsOnCleanGround, IsFoundOver, path_of, IsPathAnswer};
 ghost use Rattle.un_path.specs.Hops.{IsAt, AreReached};
 ghost use Rattle.un_path.specs.Search.{IsSettledAt, HasArrival, CanTrace, IsPlaceBefore, AreTraced, AreAllSettled, AreLabelsOf, IsFoundAt};
 ghost use Rattle.std.specs.List.Sorted.{IsStrictlySortedBy};
@@ -161,9 +161,8 @@ pub fn path<G: Ground, L>(
     ensures answer { IfOk result (IsPathAnswer (G.stars_and_areas over.now) ask.now) }
 
     // No more stars are looked up than nodes are reached.
-    ensures ticks { (reached : List Node)
-        → IsReachFrom (G.stars_and_areas over.now) ask.now.barriers ask.now.from reached
-        → OnOk result (steps.new ≤ steps.old + length reached) }
+    ensures ticks { OnReachCount (G.stars_and_areas over.now) ask.now.barriers ask.now.from
+        (λ count. OnOk result (steps.new ≤ steps.old + count)) }
     ensures never_falls { steps.old ≤ steps.new }
 {
     let reached = reach_seen(alloc, over, &[ask.from], Mode::Any, &ask.barriers, steps)?;

@@ -10,6 +10,7 @@ use Rattle.un_defs.specs.Ground.{Ground}
 use Rattle.un_defs.specs.Reach.{IsReach, leads, dirt}
 use Rattle.un_defs.specs.Refusing.{first_refusal}
 use Rattle.un_defs.specs.Result.{feature_ids}
+use Rattle.un_walk.specs.Ticks.{IsLookedUpOnce}
 use Rattle.un_ask.specs.declared.typed.TypedAsk.{TypedAsk}
 use Rattle.un_ask.specs.declared.stored.StoredSubnet.{StoredSubnet}
 use Rattle.un_ask.specs.declared.stored.Status.TheVariants.{Clean}
@@ -20,6 +21,10 @@ use Rattle.un_subnet.specs.Refusals.{dirt_refusal, conflict_refusal, disjoint_re
 -- the nodes in which a walk of the update ends
 abbrev pub IsReachOf : Ground → TypedAsk → List Node → Type 0
 IsReachOf G ask = IsReach (leads G ask.barriers Any) ask.starts
+
+-- what holds of the count of the nodes that the update reaches, where no star is looked up twice
+abbrev pub OnReachCount : Ground → TypedAsk → (ℕ → Type 0) → Type 0
+OnReachCount G ask P = (reached : List Node) → IsReachOf G ask reached → IsLookedUpOnce G ask.barriers → P (length reached)
 
 -- an update has a tier, a name and a controller, and it is consistent
 pub record IsForUpdate (ask : TypedAsk) : Type 0 where

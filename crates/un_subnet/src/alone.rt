@@ -1,14 +1,13 @@
 //! The controllers that the least one does not reach alone.
 
-ghost use Rattle.std.specs.Prelude.{◌≡◌, ◌≤◌, ◌+◌, List, length, IfOk, OnOk};
+ghost use Rattle.std.specs.Prelude.{◌≡◌, ◌≤◌, ◌+◌, List, IfOk, OnOk};
 ghost use Rattle.std.specs.List.Sorted.{IsStrictlySortedBy};
 ghost use Rattle.un_defs.specs.declared.port.Node.{Node};
 ghost use Rattle.un_defs.specs.Orders.{node_cmp, port_cmp, least};
-ghost use Rattle.un_walk.specs.Ticks.{IsLookedUpOnce};
 ghost use Rattle.un_walk.specs.Growth.{has_node};
 ghost use Rattle.un_subnet.specs.Alone.{ports_outside, reached_alone};
 ghost use Rattle.un_subnet.specs.Refusals.{disjoint_refusal};
-ghost use Rattle.un_subnet.specs.Answer.{IsReachOf};
+ghost use Rattle.un_subnet.specs.Answer.{IsReachOf, OnReachCount};
 
 use std::alloc::{AllocError, Global};
 use un_ask::TypedAsk;
@@ -59,9 +58,8 @@ fn ports_apart<G: Ground, L>(
     ensures ports { (reached : List Node) → IsReachOf (G.stars_and_areas over.now) ask.now reached
         → IfOk result (λ ports. ports.items ≡ ports_outside
         (reached_alone (G.stars_and_areas over.now) ask.now.barriers ask.now.starts reached) ask.now.starts) }
-    ensures ticks { (reached : List Node) → IsReachOf (G.stars_and_areas over.now) ask.now reached
-        → IsLookedUpOnce (G.stars_and_areas over.now) ask.now.barriers
-        → OnOk result (steps.new ≤ steps.old + length reached) }
+    ensures ticks { OnReachCount (G.stars_and_areas over.now) ask.now
+        (λ count. OnOk result (steps.new ≤ steps.old + count)) }
     ensures never_falls { steps.old ≤ steps.new }
 {
     let starts = ask.starts.as_slice();
@@ -83,9 +81,8 @@ pub(crate) fn disjoint_refusal<G: Ground, L>(
     ensures refusal { (reached : List Node) → IsReachOf (G.stars_and_areas over.now) ask.now reached
         → IfOk result (λ refusal. refusal ≡ disjoint_refusal
         (G.stars_and_areas over.now) ask.now.barriers ask.now.disjoint ask.now.starts reached) }
-    ensures ticks { (reached : List Node) → IsReachOf (G.stars_and_areas over.now) ask.now reached
-        → IsLookedUpOnce (G.stars_and_areas over.now) ask.now.barriers
-        → OnOk result (steps.new ≤ steps.old + length reached) }
+    ensures ticks { OnReachCount (G.stars_and_areas over.now) ask.now
+        (λ count. OnOk result (steps.new ≤ steps.old + count)) }
     ensures never_falls { steps.old ≤ steps.new }
 {
     if ask.disjoint || ask.starts.as_slice().len() < 2 {

@@ -1,11 +1,10 @@
 //! The update itself.
 
-ghost use Rattle.std.specs.Prelude.{◌≡◌, ◌≤◌, ◌+◌, ◌*◌, List, length, IfOk, OnOk};
-ghost use Rattle.un_defs.specs.declared.port.Node.{Node};
+ghost use Rattle.std.specs.Prelude.{◌≡◌, ◌≤◌, ◌+◌, ◌*◌, length, IfOk, OnOk};
 ghost use Rattle.un_defs.specs.Reach.{dirt};
 ghost use Rattle.un_walk.specs.Ticks.{IsLookedUpOnce};
 ghost use Rattle.un_subnet.specs.Refusals.{dirt_refusal};
-ghost use Rattle.un_subnet.specs.Answer.{IsReachOf, IsForUpdate, walk_refusal, IsAnswer};
+ghost use Rattle.un_subnet.specs.Answer.{IsReachOf, OnReachCount, IsForUpdate, walk_refusal, IsAnswer};
 
 use crate::alone::disjoint_refusal;
 use crate::conflict::conflict_refusal;
@@ -73,9 +72,8 @@ pub fn update<G: Ground, L>(
 
     // For each node that is reached, one star is looked up for the walk, at most one for the controllers of other subnetworks, and at most
     // one for the walk from the least controller alone.
-    ensures ticks { (reached : List Node) → IsReachOf (G.stars_and_areas over.now) ask.now reached
-        → IsLookedUpOnce (G.stars_and_areas over.now) ask.now.barriers
-        → OnOk result (steps.new ≤ steps.old + 3 * length reached) }
+    ensures ticks { OnReachCount (G.stars_and_areas over.now) ask.now
+        (λ count. OnOk result (steps.new ≤ steps.old + 3 * count)) }
     ensures never_falls { steps.old ≤ steps.new }
 {
     let reached = reach(

@@ -1,5 +1,5 @@
 -- What a trace answers of the nodes that it reached.
-use Rattle.std.specs.Prelude.{◌≡◌, ℕ, ℤ, pos, Bool, true, false, List, [], map, Option, Some, None, IsSome, ⊤, if◌then◌else◌}
+use Rattle.std.specs.Prelude.{◌≡◌, ℕ, ℤ, pos, Bool, true, false, List, [], map, length, Option, Some, None, IsSome, ⊤, if◌then◌else◌}
 use Rattle.std.specs.Option.{option_map_or}
 use Rattle.un_defs.specs.declared.port.Node.{Node}
 use Rattle.un_defs.specs.declared.walk.Mode.{Mode}
@@ -8,6 +8,7 @@ use Rattle.un_defs.specs.declared.walk.Dirt.{Dirt}
 use Rattle.un_defs.specs.Ground.{Ground}
 use Rattle.un_defs.specs.Reach.{IsReach, leads, dirt}
 use Rattle.un_defs.specs.Result.{result_nodes, result_features, result_containers, result_contents, result_structures, result_controllers, count_function, sum_function, least_function, greatest_function}
+use Rattle.un_walk.specs.Ticks.{IsLookedUpOnce}
 use Rattle.un_ask.specs.declared.trace.TraceKind.{TraceKind}
 use Rattle.un_ask.specs.declared.trace.TraceKind.TheVariants.{Connected, Subnetwork, Controllers as ControllersKind, Upstream, Downstream, Loops as LoopsKind, Isolation as IsolationKind}
 use Rattle.un_ask.specs.declared.typed.Func.{Func}
@@ -28,6 +29,10 @@ mode_of Upstream = Against
 mode_of Downstream = Along
 mode_of LoopsKind = Any
 mode_of IsolationKind = Any
+
+-- what holds of the count of the nodes that the trace reaches, where no star is looked up twice
+abbrev pub OnReachCount : Ground → TypedAsk → (ℕ → Type 0) → Type 0
+OnReachCount G ask P = (reached : List Node) → IsReach (leads G ask.barriers (mode_of ask.kind)) ask.starts reached → IsLookedUpOnce G ask.barriers → P (length reached)
 
 -- a trace of the kind tells controllers in place of a result
 abbrev pub lists_controllers : TraceKind → Bool

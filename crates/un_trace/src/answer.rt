@@ -1,15 +1,12 @@
 //! The trace itself.
 
-ghost use Rattle.std.specs.Prelude.{◌≡◌, ◌≤◌, ◌+◌, ◌*◌, ℕ, List, length, flat_map, None, IsSome, IfOk, OnOk, if◌then◌else◌};
+ghost use Rattle.std.specs.Prelude.{◌≡◌, ◌≤◌, ◌+◌, flat_map, None, IsSome, IfOk, OnOk, if◌then◌else◌};
 ghost use Rattle.std.specs.Ordering.{nat_cmp};
 ghost use Rattle.std.specs.List.Sorted.{IsStrictlySortedBy};
-ghost use Rattle.un_defs.specs.declared.port.Node.{Node};
 ghost use Rattle.un_defs.specs.Orders.{node_cmp, rising};
-ghost use Rattle.un_defs.specs.Reach.{IsReach, leads};
-ghost use Rattle.un_walk.specs.Ticks.{IsLookedUpOnce};
 ghost use Rattle.un_trace.specs.Seen.{spots_of, nodes_of, HaveEntries};
 ghost use Rattle.un_trace.specs.Included.{ids_of};
-ghost use Rattle.un_trace.specs.TraceReply.{IsAnswerable, IsAnswer, mode_of, where_asked, result_of, nodes_in_result, lists_controllers, controllers_reply, result_reply, clean_reply};
+ghost use Rattle.un_trace.specs.TraceReply.{OnReachCount, IsAnswerable, IsAnswer, mode_of, where_asked, result_of, nodes_in_result, lists_controllers, controllers_reply, result_reply, clean_reply};
 
 use crate::controllers::controllers_of;
 use crate::features::{Features, features_of};
@@ -174,10 +171,8 @@ pub fn trace<G: Ground, L>(
     ensures answer { IfOk result (IsAnswer (G.stars_and_areas over.now) ask.now) }
 
     // No more stars are looked up than nodes are reached.
-    ensures ticks { (reached : List Node)
-        → IsReach (leads (G.stars_and_areas over.now) ask.now.barriers (mode_of ask.now.kind)) ask.now.starts reached
-        → IsLookedUpOnce (G.stars_and_areas over.now) ask.now.barriers
-        → OnOk result (steps.new ≤ steps.old + length reached) }
+    ensures ticks { OnReachCount (G.stars_and_areas over.now) ask.now
+        (λ count. OnOk result (steps.new ≤ steps.old + count)) }
     ensures never_falls { steps.old ≤ steps.new }
 {
     let mode = mode_of(ask.kind);
