@@ -1,10 +1,11 @@
 -- The associations and the controllers of a network, and the network that has them.
-use Rattle.std.specs.Prelude.{Bool, List, []}
+use Rattle.std.specs.Prelude.{ℕ, Bool, List, [], map}
+use Rattle.un_defs.specs.declared.port.Port.{Port}
 use Rattle.un_defs.specs.declared.assoc.Assoc.{Assoc}
 use Rattle.un_defs.specs.declared.assoc.AssocKind.{AssocKind}
 use Rattle.un_defs.specs.declared.assoc.AssocKind.TheVariants.{Connectivity, Containment, Attachment}
 use Rattle.un_defs.specs.declared.assoc.Controller.{Controller}
-use Rattle.un_defs.specs.Features.{Features}
+use Rattle.un_defs.specs.Features.{Features, controllers_of}
 use Rattle.un_defs.specs.Links.{is_connectivity}
 use Rattle.un_defs.specs.Star.{is_containment, is_attachment}
 
@@ -24,6 +25,10 @@ with_links F L = record F { associations = L.associations; controllers = L.contr
 -- a network that has only associations and controllers
 abbrev pub only_links : Links → Features
 only_links L = record { rows = []; associations = L.associations; controllers = L.controllers; rules = [] }
+
+-- the ports of the controllers of a subnetwork, in their order
+abbrev pub controller_ports : Links → ℕ → List ℕ → List Port
+controller_ports L tier subnet = map (λ c. c.port) (controllers_of (only_links L) tier subnet)
 
 -- none of either
 abbrev pub no_links : Links

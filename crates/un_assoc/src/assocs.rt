@@ -1,13 +1,13 @@
 //! The associations and controllers, and what is asked of them.
-ghost use Rattle.std.specs.Prelude.{◌≡◌, ◌≢◌, ◌<◌, ◌==◌, not, ◌++◌, ◌∷◌, [], filter, find, length, map, slice_get, All, IsTrue, Some, None, IfOk};
+ghost use Rattle.std.specs.Prelude.{◌≡◌, ◌≢◌, ◌<◌, ◌==◌, not, ◌++◌, ◌∷◌, [], filter, find, length, slice_get, All, IsTrue, Some, None, IfOk};
 ghost use Rattle.std.specs.List.{list_any};
 ghost use Rattle.std.specs.BTreeSet.{insert_key};
 ghost use Rattle.std.specs.Option.{option_copied};
-ghost use Rattle.un_defs.specs.Features.{association, associations_of, controllers_of};
+ghost use Rattle.un_defs.specs.Features.{association, associations_of};
 ghost use Rattle.un_defs.specs.Star.{is_containment, controller_at};
 ghost use Rattle.un_defs.specs.Orders.{same_port};
 ghost use Rattle.un_defs.specs.Result.{controller_cmp};
-ghost use Rattle.un_assoc.specs.Links.{no_links, only_links, is_of_sort};
+ghost use Rattle.un_assoc.specs.Links.{no_links, only_links, controller_ports, is_of_sort};
 ghost use Rattle.un_assoc.specs.Containing.{container_of, contents_count, containers_above};
 ghost use Rattle.un_assoc.specs.Indexes.{IsRising};
 
@@ -121,8 +121,7 @@ impl Assocs {
         tier: u8,
         subnet: &str,
     ) -> Result<Vec<Port>, AllocError>
-        ensures { IfOk result (λ ports. ports.items
-            ≡ map (λ c. c.port) (controllers_of (only_links self.now) tier subnet.now)) }
+        ensures { IfOk result (λ ports. ports.items ≡ controller_ports self.now tier subnet.now) }
     {
         self.controllers.of_subnet(alloc, tier, subnet)
     }

@@ -2,7 +2,7 @@
 ghost use Rattle.std.specs.Prelude.{◌<◌, All, IfOk, OnOk, IfErr};
 ghost use Rattle.un_defs.specs.Sound.{FitsKind};
 ghost use Rattle.un_assoc.specs.Words.{IsLinkEdit};
-ghost use Rattle.un_assoc.specs.Edits.{setting_of, IsMade, IsGood, IsDue};
+ghost use Rattle.un_assoc.specs.Edits.{IsMadeIn, IsGoodIn, IsDueIn};
 
 use crate::assocs::Assocs;
 use std::alloc::Global;
@@ -28,12 +28,10 @@ impl Assocs {
         requires word { IsLinkEdit edit.now }
         requires next { All (λ a. a.id < next) self.now.associations }
         requires kinds { All (FitsKind schema.now) (K.features rows.now).rows }
-        ensures links { IfOk result (λ after.
-            IsMade (setting_of schema.now tiers.now) next (K.features rows.now) self.now edit.now after) }
-        ensures good { OnOk result (
-            IsGood (setting_of schema.now tiers.now) (K.features rows.now) self.now edit.now) }
-        ensures bad { IfErr result (λ refusal.
-            IsDue (setting_of schema.now tiers.now) (K.features rows.now) self.now edit.now refusal) }
+        ensures links { IfOk result
+            (IsMadeIn schema.now tiers.now next (K.features rows.now) self.now edit.now) }
+        ensures good { OnOk result (IsGoodIn schema.now tiers.now (K.features rows.now) self.now edit.now) }
+        ensures bad { IfErr result (IsDueIn schema.now tiers.now (K.features rows.now) self.now edit.now) }
     {
         match edit {
             Edit::Connect { .. } => self.connect(alloc, edit, rows, next),

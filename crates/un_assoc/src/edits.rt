@@ -1,11 +1,8 @@
 //! Edits of associations and controllers, each by its word.
-ghost use Rattle.std.specs.Prelude.{◌≡◌, ◌<◌, ℕ, All, IfOk, OnOk, IfErr};
-ghost use Rattle.un_defs.specs.Features.{Features};
+ghost use Rattle.std.specs.Prelude.{◌≡◌, ◌<◌, All, IfOk, OnOk, IfErr};
 ghost use Rattle.un_defs.specs.Sound.{FitsKind};
-ghost use Rattle.un_defs.specs.Change.{Setting};
-ghost use Rattle.un_tiers.specs.declared.tier.Tier.{Tier};
 ghost use Rattle.un_assoc.specs.Words.{IsConnect, IsContain, IsAttach, IsDetach, IsController, IsUncontroller};
-ghost use Rattle.un_assoc.specs.Edits.{setting_of, IsMade, IsGood, IsDue};
+ghost use Rattle.un_assoc.specs.Edits.{IsMadeInAnySetting, IsMadeWithAnyId, IsMadeInAnySettingWithAnyId, IsMadeInAnyNetwork, IsGoodIn, IsGoodInAnySetting, IsGoodInAnyNetwork, IsDueIn, IsDueInAnySetting, IsDueInAnyNetwork};
 
 use crate::assocs::Assocs;
 use crate::checks::{
@@ -40,12 +37,9 @@ impl Assocs {
     ) -> Result<Assocs, Refusal>
         requires word { IsConnect edit.now }
         requires next { All (λ a. a.id < next) self.now.associations }
-        ensures links { IfOk result (λ after. (T : Setting) →
-            IsMade T next (K.features rows.now) self.now edit.now after) }
-        ensures good { OnOk result ((T : Setting) →
-            IsGood T (K.features rows.now) self.now edit.now) }
-        ensures bad { IfErr result (λ refusal. (T : Setting) →
-            IsDue T (K.features rows.now) self.now edit.now refusal) }
+        ensures links { IfOk result (IsMadeInAnySetting next (K.features rows.now) self.now edit.now) }
+        ensures good { OnOk result (IsGoodInAnySetting (K.features rows.now) self.now edit.now) }
+        ensures bad { IfErr result (IsDueInAnySetting (K.features rows.now) self.now edit.now) }
     {
         let Edit::Connect { from, to } = edit else {
             unreachable!()
@@ -81,12 +75,9 @@ impl Assocs {
     ) -> Result<Assocs, Refusal>
         requires word { IsContain edit.now }
         requires next { All (λ a. a.id < next) self.now.associations }
-        ensures links { IfOk result (λ after. (T : Setting) →
-            IsMade T next (K.features rows.now) self.now edit.now after) }
-        ensures good { OnOk result ((T : Setting) →
-            IsGood T (K.features rows.now) self.now edit.now) }
-        ensures bad { IfErr result (λ refusal. (T : Setting) →
-            IsDue T (K.features rows.now) self.now edit.now refusal) }
+        ensures links { IfOk result (IsMadeInAnySetting next (K.features rows.now) self.now edit.now) }
+        ensures good { OnOk result (IsGoodInAnySetting (K.features rows.now) self.now edit.now) }
+        ensures bad { IfErr result (IsDueInAnySetting (K.features rows.now) self.now edit.now) }
     {
         let Edit::Contain { container, content } = edit else {
             unreachable!()
@@ -122,12 +113,9 @@ impl Assocs {
     ) -> Result<Assocs, Refusal>
         requires word { IsAttach edit.now }
         requires next { All (λ a. a.id < next) self.now.associations }
-        ensures links { IfOk result (λ after. (T : Setting) →
-            IsMade T next (K.features rows.now) self.now edit.now after) }
-        ensures good { OnOk result ((T : Setting) →
-            IsGood T (K.features rows.now) self.now edit.now) }
-        ensures bad { IfErr result (λ refusal. (T : Setting) →
-            IsDue T (K.features rows.now) self.now edit.now refusal) }
+        ensures links { IfOk result (IsMadeInAnySetting next (K.features rows.now) self.now edit.now) }
+        ensures good { OnOk result (IsGoodInAnySetting (K.features rows.now) self.now edit.now) }
+        ensures bad { IfErr result (IsDueInAnySetting (K.features rows.now) self.now edit.now) }
     {
         let Edit::Attach { structure, content } = edit else {
             unreachable!()
@@ -150,11 +138,9 @@ impl Assocs {
     /// The associations without one. The edit is refused with `NoSuchAssociation`.
     pub fn detach(&self, alloc: Global, edit: &Edit) -> Result<Assocs, Refusal>
         requires word { IsDetach edit.now }
-        ensures links { IfOk result (λ after. (T : Setting) (next : ℕ) (F : Features) →
-            IsMade T next F self.now edit.now after) }
-        ensures good { OnOk result ((T : Setting) (F : Features) → IsGood T F self.now edit.now) }
-        ensures bad { IfErr result (λ refusal. (T : Setting) (F : Features) →
-            IsDue T F self.now edit.now refusal) }
+        ensures links { IfOk result (IsMadeInAnyNetwork self.now edit.now) }
+        ensures good { OnOk result (IsGoodInAnyNetwork self.now edit.now) }
+        ensures bad { IfErr result (IsDueInAnyNetwork self.now edit.now) }
     {
         let Edit::Detach { assoc } = edit else {
             unreachable!()
@@ -177,12 +163,10 @@ impl Assocs {
     ) -> Result<Assocs, Refusal>
         requires word { IsController edit.now }
         requires kinds { All (FitsKind schema.now) (K.features rows.now).rows }
-        ensures links { IfOk result (λ after. (next : ℕ) →
-            IsMade (setting_of schema.now tiers.now) next (K.features rows.now) self.now edit.now after) }
-        ensures good { OnOk result (
-            IsGood (setting_of schema.now tiers.now) (K.features rows.now) self.now edit.now) }
-        ensures bad { IfErr result (λ refusal.
-            IsDue (setting_of schema.now tiers.now) (K.features rows.now) self.now edit.now refusal) }
+        ensures links { IfOk result
+            (IsMadeWithAnyId schema.now tiers.now (K.features rows.now) self.now edit.now) }
+        ensures good { OnOk result (IsGoodIn schema.now tiers.now (K.features rows.now) self.now edit.now) }
+        ensures bad { IfErr result (IsDueIn schema.now tiers.now (K.features rows.now) self.now edit.now) }
     {
         let Edit::Controller {
             id,
@@ -217,12 +201,9 @@ impl Assocs {
         rows: &K,
     ) -> Result<Assocs, Refusal>
         requires word { IsUncontroller edit.now }
-        ensures links { IfOk result (λ after. (T : Setting) (next : ℕ) →
-            IsMade T next (K.features rows.now) self.now edit.now after) }
-        ensures good { OnOk result ((T : Setting) →
-            IsGood T (K.features rows.now) self.now edit.now) }
-        ensures bad { IfErr result (λ refusal. (T : Setting) →
-            IsDue T (K.features rows.now) self.now edit.now refusal) }
+        ensures links { IfOk result (IsMadeInAnySettingWithAnyId (K.features rows.now) self.now edit.now) }
+        ensures good { OnOk result (IsGoodInAnySetting (K.features rows.now) self.now edit.now) }
+        ensures bad { IfErr result (IsDueInAnySetting (K.features rows.now) self.now edit.now) }
     {
         let Edit::Uncontroller { id, terminal } = edit else {
             unreachable!()

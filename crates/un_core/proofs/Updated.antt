@@ -9,7 +9,7 @@ use Rattle.un_defs.specs.declared.refusal.Limit.TheVariants.{Subnetworks}
 use Rattle.un_defs.specs.declared.assoc.Controller.{Controller}
 use Rattle.un_defs.specs.Features.{controllers_of}
 use Rattle.un_defs.specs.Ground.{Ground}
-use Rattle.un_defs.specs.Refusing.{first_refusal, refused_if}
+use Rattle.un_defs.specs.Refusing.{first_refusal, refused_if, Refuses}
 use Rattle.un_defs.proofs.Members.{among_from_contains}
 use Rattle.un_ask.specs.declared.stored.StoredSubnet.{StoredSubnet}
 use Rattle.un_ask.specs.declared.typed.TypedAsk.{TypedAsk}
@@ -24,7 +24,6 @@ use Rattle.un_core.specs.Cover.{IsState}
 use Rattle.un_core.specs.Walked.{Survey, reached, kept_survey, fresh_survey}
 use Rattle.un_core.specs.Answers.{reached_from}
 use Rattle.un_core.specs.Updating.{walk_of, outcome_in, outcome, done, IsOfWalk, row_in_reply}
-use Rattle.un_core.specs.Refusals.{Refuses}
 use Rattle.un_tiers.specs.Lists.{tier_named}
 use Rattle.un_defs.specs.declared.walk.Mode.TheVariants.{Any}
 use Rattle.un_core.proofs.Grounds.{reached_here, reached_fresh}

@@ -1,5 +1,5 @@
 -- What is looked at before a command is done, in order, and the refusal that is due.
-use Rattle.std.specs.Prelude.{◌≡◌, ◌≢◌, Result, IfErr, ℕ, ◌+◌, nat_lt, nat_le, ◌||◌, List, [], ◌∷◌, length, Option, Some, None}
+use Rattle.std.specs.Prelude.{◌≡◌, ◌≢◌, ℕ, ◌+◌, nat_lt, nat_le, ◌||◌, List, [], ◌∷◌, length, Option, Some, None}
 use Rattle.std.specs.Option.{option_map, option_map_or}
 use Rattle.un_geom.specs.Rectangle.{Rectangle}
 use Rattle.un_defs.specs.declared.edit.Edit.{Edit}
@@ -21,10 +21,6 @@ use Rattle.un_core.specs.State.{State, known}
 use Rattle.un_subnet.specs.Outcome.{outcome_refusal}
 use Rattle.un_core.specs.Updating.{outcome}
 use Rattle.un_core.specs.Step.{made_at, rule_of}
-
--- an error is the refusal that has its cause, or one of want of memory
-abbrev pub Refuses : {A : Type 0} → Result A Refusal → Option Refusal → Type 0
-Refuses result cause = IfErr result (λ r. r ≢ refusal.Memory → cause ≡ Some r)
 
 -- a version or a number from here on is none
 abbrev pub last_number : ℕ

@@ -2,13 +2,13 @@
 ghost use Rattle.std.specs.Prelude.{◌≡◌, ◌≢◌, ◌<◌, ◌≤◌, ◌++◌, ◌∷◌, [], true, length, All, Some, None, IfOk, OnOk, IfErr, option_to_list};
 ghost use Rattle.std.specs.Option.{option_map};
 ghost use Rattle.un_defs.specs.declared.refusal.Refusal.TheVariants.{Memory};
-ghost use Rattle.un_defs.specs.Refusing.{first_refusal};
+ghost use Rattle.un_defs.specs.Refusing.{first_refusal, Refuses};
 ghost use Rattle.un_defs.specs.Dirtied.{dirtied};
 ghost use Rattle.un_facts.specs.Refusals.{is_of_features};
 ghost use Rattle.un_core.specs.Step.{MayBeMadeAt, made_at, id_of, touched, made_by_all, ids_of_all, touched_by_all, dirtied_by_batch, batched};
 ghost use Rattle.un_core.specs.Cover.{MayAllBeMade};
 ghost use Rattle.un_core.specs.Making.{FeaturesGrow, AssociationsGrow, AreasGrow};
-ghost use Rattle.un_core.specs.Refusals.{Refuses, IsBatchRefusal, beside_numbers, first_refused, batch_refusal};
+ghost use Rattle.un_core.specs.Refusals.{IsBatchRefusal, beside_numbers, first_refused, batch_refusal};
 
 use crate::edit::{reply_id, touched_row};
 use crate::net::Net;

@@ -1,10 +1,10 @@
 //! Edits of the features.
 ghost use Rattle.std.specs.Prelude.{◌≡◌, ◌<◌, ◌≤◌, ◌+◌, true, length, Some, None, IfOk, OnOk, IfErr};
-ghost use Rattle.un_defs.specs.Refusing.{first_refusal};
+ghost use Rattle.un_defs.specs.Refusing.{first_refusal, Refuses};
 ghost use Rattle.un_defs.specs.Dirtied.{dirtied};
 ghost use Rattle.un_facts.specs.Refusals.{is_of_features};
 ghost use Rattle.un_core.specs.Step.{MayBeMadeAt, made_at, edited, reply_id, touched_row};
-ghost use Rattle.un_core.specs.Refusals.{Refuses, beside_numbers, edit_refusal, too_many};
+ghost use Rattle.un_core.specs.Refusals.{beside_numbers, edit_refusal, too_many};
 ghost use Rattle.un_core.specs.Making.{AreasGrow, FeaturesGrow, AssociationsGrow, IsChange};
 
 use crate::net::Net;

@@ -5,7 +5,8 @@ ghost use Rattle.un_defs.specs.declared.edit.Edit.TheVariants.{Rule as RuleEdit}
 ghost use Rattle.un_defs.specs.Dirtied.{dirtied};
 ghost use Rattle.un_dirty.specs.Areas.{added};
 ghost use Rattle.un_core.specs.Step.{made_at, rule_of, ruled, dirtied_by_rule};
-ghost use Rattle.un_core.specs.Refusals.{Refuses, added_refusal, rule_refusal, too_many};
+ghost use Rattle.un_defs.specs.Refusing.{Refuses};
+ghost use Rattle.un_core.specs.Refusals.{added_refusal, rule_refusal, too_many};
 ghost use Rattle.un_core.specs.Cover.{IsState};
 ghost use Rattle.un_core.specs.Making.{with_parts};
 

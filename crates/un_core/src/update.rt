@@ -14,7 +14,8 @@ ghost use Rattle.un_core.specs.Walked.{kept_survey, reached};
 ghost use Rattle.un_subnet.specs.Stored.{under, with_row};
 ghost use Rattle.un_core.specs.Answers.{row_reply, subnet_reply};
 ghost use Rattle.un_core.specs.Updating.{walk_of, outcome_in, done, IsOfWalk, row_in_reply, updated, updated_reply};
-ghost use Rattle.un_core.specs.Refusals.{Refuses, update_refusal};
+ghost use Rattle.un_defs.specs.Refusing.{Refuses};
+ghost use Rattle.un_core.specs.Refusals.{update_refusal};
 
 use crate::net::Net;
 use std::alloc::{AllocError, Global};

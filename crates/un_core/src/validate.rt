@@ -10,7 +10,8 @@ ghost use Rattle.un_core.specs.State.{known};
 ghost use Rattle.un_core.specs.Commands.{step};
 ghost use Rattle.un_core.specs.Preparing.{IsPreparedAt};
 ghost use Rattle.un_core.specs.Validation.{validated, met, errors_under};
-ghost use Rattle.un_core.specs.Refusals.{Refuses, numbers_refusal};
+ghost use Rattle.un_defs.specs.Refusing.{Refuses};
+ghost use Rattle.un_core.specs.Refusals.{numbers_refusal};
 
 use crate::kept::Kept;
 use crate::net::Net;

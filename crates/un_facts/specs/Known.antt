@@ -6,6 +6,7 @@ use Rattle.un_defs.specs.declared.row.Row.{Row}
 use Rattle.un_defs.specs.declared.edit.Edit.{Edit}
 use Rattle.un_defs.specs.Features.{Features}
 use Rattle.un_defs.specs.Change.{Setting, Next, changed}
+use Rattle.un_defs.specs.Laws.{MayBeMade}
 use Rattle.un_store.specs.Edits.{settled}
 use Rattle.un_assoc.specs.Links.{Links, with_links}
 use Rattle.un_tiers.specs.declared.setup.Setup.{Setup}
@@ -40,6 +41,10 @@ next_at ids moment = record { feature = ids.feature; association = ids.associati
 -- what is known once an edit is made
 abbrev pub edited : Known → NextIds → ℕ → Edit → Known
 edited K ids moment e = record K { features = changed (setting K.setup) (next_at ids moment) K.features e }
+
+-- the edit may be made at the moment
+abbrev pub MayBeEdited : Known → NextIds → ℕ → Edit → Type 0
+MayBeEdited K ids moment e = MayBeMade (setting K.setup) (next_at ids moment) K.features e
 
 -- what is known once the rows with these ids have the moment
 abbrev pub settled_at : Known → List ℕ → ℕ → Known

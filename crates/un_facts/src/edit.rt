@@ -1,11 +1,11 @@
 //! Edits of the features.
-ghost use Rattle.std.specs.Prelude.{◌≡◌, ◌≢◌, true, Some, None, IfOk, OnOk, IfErr};
-ghost use Rattle.un_defs.specs.declared.refusal.Refusal.TheVariants.{Memory};
-ghost use Rattle.un_defs.specs.Laws.{AreNew, MayBeMade};
+ghost use Rattle.std.specs.Prelude.{◌≡◌, true, None, IfOk, OnOk};
+ghost use Rattle.un_defs.specs.Laws.{AreNew};
 ghost use Rattle.un_defs.specs.Dirtied.{dirtied};
 ghost use Rattle.un_store.specs.Words.{IsRowEdit};
+ghost use Rattle.un_defs.specs.Refusing.{Refuses};
 ghost use Rattle.un_assoc.specs.Words.{IsLinkEdit};
-ghost use Rattle.un_facts.specs.Known.{setting, next_at, edited, linked};
+ghost use Rattle.un_facts.specs.Known.{next_at, edited, linked, MayBeEdited};
 ghost use Rattle.un_facts.specs.Changing.{IsRowChange, Follows};
 ghost use Rattle.un_facts.specs.Standing.{IsKnown};
 ghost use Rattle.un_facts.specs.Refusals.{is_row_edit, is_of_features, refusal_of};
@@ -66,11 +66,9 @@ impl Facts {
         requires new { AreNew (next_at ids moment) self.now.features }
         ensures follows { IfOk result (λ c. Follows self.now ids moment edit.now c.after) }
         ensures dirtied { IfOk result (λ c. c.dirtied.items ≡ dirtied self.now.features edit.now) }
-        ensures may { OnOk result
-            (MayBeMade (setting self.now.setup) (next_at ids moment) self.now.features edit.now) }
+        ensures may { OnOk result (MayBeEdited self.now ids moment edit.now) }
         ensures good { OnOk result (refusal_of self.now edit.now ≡ None) }
-        ensures bad { IfErr result (λ refusal. refusal ≢ Memory
-            → refusal_of self.now edit.now ≡ Some refusal) }
+        ensures bad { Refuses result (refusal_of self.now edit.now) }
     {
         let parts = self.parts();
         let Setup { schema, .. } = parts.frame.setup();
@@ -100,11 +98,9 @@ impl Facts {
         requires new { AreNew (next_at ids moment) self.now.features }
         ensures follows { IfOk result (λ c. Follows self.now ids moment edit.now c.after) }
         ensures dirtied { IfOk result (λ c. c.dirtied.items ≡ dirtied self.now.features edit.now) }
-        ensures may { OnOk result
-            (MayBeMade (setting self.now.setup) (next_at ids moment) self.now.features edit.now) }
+        ensures may { OnOk result (MayBeEdited self.now ids moment edit.now) }
         ensures good { OnOk result (refusal_of self.now edit.now ≡ None) }
-        ensures bad { IfErr result (λ refusal. refusal ≢ Memory
-            → refusal_of self.now edit.now ≡ Some refusal) }
+        ensures bad { Refuses result (refusal_of self.now edit.now) }
     {
         let parts = self.parts();
         let Setup { schema, tiers } = parts.frame.setup();
@@ -137,11 +133,9 @@ impl Facts {
         requires new { AreNew (next_at ids moment) self.now.features }
         ensures follows { IfOk result (λ c. Follows self.now ids moment edit.now c.after) }
         ensures dirtied { IfOk result (λ c. c.dirtied.items ≡ dirtied self.now.features edit.now) }
-        ensures may { OnOk result
-            (MayBeMade (setting self.now.setup) (next_at ids moment) self.now.features edit.now) }
+        ensures may { OnOk result (MayBeEdited self.now ids moment edit.now) }
         ensures good { OnOk result (refusal_of self.now edit.now ≡ None) }
-        ensures bad { IfErr result (λ refusal. refusal ≢ Memory
-            → refusal_of self.now edit.now ≡ Some refusal) }
+        ensures bad { Refuses result (refusal_of self.now edit.now) }
     {
         if is_row_edit(edit) {
             self.row_change(alloc, edit, ids, moment)
@@ -162,7 +156,7 @@ impl Facts {
         requires word { IsRowEdit edit.now }
         requires new { AreNew (next_at ids moment) self.features }
         requires change { IsRowChange self ids moment edit.now change }
-        requires may { MayBeMade (setting self.setup) (next_at ids moment) self.features edit.now }
+        requires may { MayBeEdited self ids moment edit.now }
         ensures { IfOk result (λ facts. facts ≡ edited self ids moment edit.now) }
     {
         let mut parts = self.into_parts()?;
@@ -197,7 +191,7 @@ impl Facts {
     ) -> Result<Facts, AllocError>
         requires new { AreNew (next_at ids moment) self.features }
         requires follows { Follows self ids moment edit.now after }
-        requires may { MayBeMade (setting self.setup) (next_at ids moment) self.features edit.now }
+        requires may { MayBeEdited self ids moment edit.now }
         ensures { IfOk result (λ facts. facts ≡ edited self ids moment edit.now) }
     {
         match after {

@@ -1,5 +1,5 @@
 //! The features as stars are built of them.
-ghost use Rattle.std.specs.Prelude.{◌≡◌, refl};
+ghost use Rattle.std.specs.Prelude.{refl};
 ghost use Rattle.std.proofs.Props.{props};
 ghost use Rattle.un_defs.specs.Sound.{IsSound};
 ghost use Rattle.un_facts.specs.Known.{in_force};

@@ -4,13 +4,13 @@
 //! junction of its kind stands; for associations, all points of both ends of each that is between rows of its kinds. There is no index of
 //! features by kind, so one pass goes over the rows, or over the associations of the sort; whether a device or junction of a kind stands at
 //! a vertex is told by the ports at that point.
-ghost use Rattle.std.specs.Prelude.{◌≡◌, ◌≢◌, ◌++◌, ◌&&◌, Some, None, All, IsTrue, IfOk, OnOk, IfErr, filter, flat_map};
+ghost use Rattle.std.specs.Prelude.{◌≡◌, ◌++◌, ◌&&◌, None, All, IsTrue, IfOk, OnOk, filter, flat_map};
 ghost use Rattle.std.specs.List.{list_any};
 ghost use Rattle.un_geom.specs.Places.{IsPlace};
 ghost use Rattle.un_schema.specs.Fits.{has_classes};
 ghost use Rattle.un_defs.specs.declared.edit.Edit.TheVariants as edit;
-ghost use Rattle.un_defs.specs.declared.refusal.Refusal.TheVariants.{Memory};
 ghost use Rattle.un_defs.specs.Dirtied.{dirtied, points_of, rule_points, joint_points, has_joint_of, is_of_kind, is_between, points_of_ends};
+ghost use Rattle.un_defs.specs.Refusing.{Refuses};
 ghost use Rattle.un_assoc.specs.Links.{is_sort};
 ghost use Rattle.un_facts.specs.Known.{ruled, in_force, with_rules};
 ghost use Rattle.un_facts.specs.Frames.{schema_of, with_rule};
@@ -51,8 +51,7 @@ fn with_rule(frame: &Frame, alloc: Global, rule: &Rule) -> Result<Frame, Refusal
     requires { IsTrue (has_classes (schema_of frame.now) rule.now) }
     ensures frame { IfOk result (λ f. f ≡ with_rule frame.now rule.now) }
     ensures good { OnOk result (rule_refusal (schema_of frame.now) rule.now ≡ None) }
-    ensures bad { IfErr result (λ refusal. refusal ≢ Memory
-        → rule_refusal (schema_of frame.now) rule.now ≡ Some refusal) }
+    ensures bad { Refuses result (rule_refusal (schema_of frame.now) rule.now) }
 {
     match frame.with_rule(alloc, rule) {
         Ok(frame) => Ok(frame),
@@ -276,8 +275,7 @@ impl Facts {
         ensures dirtied { IfOk result (λ m. m.dirtied.items
             ≡ dirtied self.now.features (edit.Rule rule.now)) }
         ensures good { OnOk result (rule_refusal (in_force self.now) rule.now ≡ None) }
-        ensures bad { IfErr result (λ refusal. refusal ≢ Memory
-            → rule_refusal (in_force self.now) rule.now ≡ Some refusal) }
+        ensures bad { Refuses result (rule_refusal (in_force self.now) rule.now) }
     {
         let frame = with_rule(&self.parts().frame, alloc, rule)?;
         let dirtied = self.rule_rectangles(alloc, rule)?;

@@ -1,5 +1,6 @@
-ghost use Rattle.std.specs.Prelude.{◌≡◌, [], ◌++◌, IfOk, OnOk, map, filter, not, if◌then◌else◌};
+ghost use Rattle.std.specs.Prelude.{◌≡◌, [], IfOk, OnOk, filter, not, if◌then◌else◌};
 ghost use Rattle.std.specs.BTreeSet.{insert_key};
+ghost use Rattle.std.specs.Map.{keys_of};
 ghost use Rattle.un_geom.specs.declared.point.Point.{Point};
 ghost use Rattle.un_geom.specs.Places.{same_point};
 ghost use Rattle.un_points.specs.PointMaps.{covered};
@@ -68,8 +69,7 @@ impl Grid {
 
     /// The points at which a port stands and that the rectangle covers, rising.
     pub fn points(&self, alloc: Global, extent: Rect) -> Result<Vec<Point>, AllocError>
-        ensures points { IfOk result (λ points. points.items
-            ≡ map (λ pair. pair.0) (covered extent self.now)) }
+        ensures points { IfOk result (λ points. points.items ≡ keys_of (covered extent self.now)) }
         ensures grid { IsGrid self.now }
     {
         self.points.points(alloc, &extent)

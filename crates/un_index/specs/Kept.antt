@@ -5,7 +5,7 @@ use Rattle.std.specs.List.Sorted.{IsStrictlySortedBy}
 use Rattle.std.specs.Map.{keys_of, remove_entry}
 use Rattle.std.specs.BTreeMap.{is_at, insert_entry}
 use Rattle.un_geom.specs.declared.point.Point.{Point}
-use Rattle.un_geom.specs.Places.{point_cmp}
+use Rattle.un_geom.specs.Places.{point_cmp, same_point}
 use Rattle.un_points.specs.PointMaps.{value_at}
 use Rattle.un_defs.specs.declared.star.Star.{Star}
 use Rattle.un_defs.specs.declared.star.TopoError.{TopoError}
@@ -22,6 +22,10 @@ stars_of kept p = unwrap_or (value_at p kept) empty_star
 -- the stars with this one at the point, or without the point where the star is empty
 abbrev pub replaced : List (Point × Star) → Point → Star → List (Point × Star)
 replaced kept p star = if is_empty_star star then remove_entry (is_at (point_cmp p)) kept else insert_entry point_cmp kept p star
+
+-- the new topology has this star at the point, and everywhere else the star of the old one
+abbrev pub HasStarAt : List (Point × Star) → List (Point × Star) → Point → Star → Type 0
+HasStarAt old new p star = (q : Point) → stars_of new q ≡ (if same_point q p then star else stars_of old q)
 
 -- the errors of a star, each with the point
 abbrev pub errors_of : Point × Star → List (Point × TopoError)

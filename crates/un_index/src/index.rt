@@ -1,11 +1,10 @@
 // The map.
-ghost use Rattle.std.specs.Prelude.{◌≡◌, ◌↔◌, ◌++◌, [], map, flat_map, length, IfOk, OnOk, OnErr, IfSome, IfNone, IsNone, if◌then◌else◌};
+ghost use Rattle.std.specs.Prelude.{◌≡◌, ◌↔◌, ◌++◌, [], map, flat_map, length, IfOk, OnOk, OnErr, IfSome, IfNone, IsNone};
 ghost use Rattle.std.specs.Arc.{arc_value};
-ghost use Rattle.un_geom.specs.declared.point.Point.{Point};
-ghost use Rattle.un_geom.specs.Places.{same_point};
+ghost use Rattle.std.specs.Map.{keys_of};
 ghost use Rattle.un_points.specs.PointMaps.{covered};
 ghost use Rattle.un_defs.specs.Star.{empty_star};
-ghost use Rattle.un_index.specs.Kept.{is_empty_star, stars_of, replaced, errors_of, AreStars, IsKept};
+ghost use Rattle.un_index.specs.Kept.{is_empty_star, stars_of, replaced, errors_of, AreStars, HasStarAt, IsKept};
 
 use std::alloc::{AllocError, Global};
 use std::marker::Model;
@@ -65,8 +64,7 @@ impl Index {
     /// others copied. After an `Err` the topology is as it was.
     pub fn put(&mut self, alloc: Global, p: Point, star: Arc<Star>) -> Result<(), AllocError>
         ensures list { OnOk result (self.new ≡ replaced self.old p (arc_value star)) }
-        ensures stars { OnOk result ((q : Point)
-            → stars_of self.new q ≡ (if same_point q p then arc_value star else stars_of self.old q)) }
+        ensures stars { OnOk result (HasStarAt self.old self.new p (arc_value star)) }
         ensures err { OnErr result (self.new ≡ self.old) }
     {
         put_star(&mut self.stars, alloc, p, star)?;
@@ -75,7 +73,7 @@ impl Index {
 
     /// The points at which a star is kept and that the rectangle covers, rising.
     pub fn points(&self, alloc: Global, extent: Rect) -> Result<Vec<Point>, AllocError>
-        ensures { IfOk result (λ points. points.items ≡ map (λ pair. pair.0) (covered extent self.now)) }
+        ensures { IfOk result (λ points. points.items ≡ keys_of (covered extent self.now)) }
     {
         self.stars.points(alloc, &extent)
     }
@@ -119,8 +117,7 @@ fn put_star(
 ) -> Result<(), AllocError>
     requires { AreStars stars.old }
     ensures list { OnOk result (stars.new ≡ replaced stars.old p (arc_value star)) }
-    ensures stars { OnOk result ((q : Point)
-        → stars_of stars.new q ≡ (if same_point q p then arc_value star else stars_of stars.old q)) }
+    ensures stars { OnOk result (HasStarAt stars.old stars.new p (arc_value star)) }
     ensures kept { AreStars stars.new }
     ensures err { OnErr result (stars.new ≡ stars.old) }
 {

@@ -1,13 +1,12 @@
 // The map.
-ghost use Rattle.std.specs.Prelude.{◌≡◌, ◌∷◌, [], List, Option, None, Some, map, length, IfOk, OnOk, OnErr, IfSome, IfNone, if◌then◌else◌};
+ghost use Rattle.std.specs.Prelude.{◌≡◌, [], None, Some, map, length, IfOk, OnOk, OnErr, IfSome, IfNone};
 ghost use Rattle.std.specs.Option.{option_copied};
 ghost use Rattle.std.specs.Arc.{arc_value};
 ghost use Rattle.std.specs.Map.{remove_entry};
 ghost use Rattle.std.specs.BTreeMap.{is_at, insert_entry};
-ghost use Rattle.un_geom.specs.declared.point.Point.{Point};
-ghost use Rattle.un_geom.specs.Places.{point_cmp, same_point};
+ghost use Rattle.un_geom.specs.Places.{point_cmp};
 ghost use Rattle.un_pages.specs.Pairs.{pair_held, IsOrdered};
-ghost use Rattle.un_points.specs.PointMaps.{value_at, covered, covered_past};
+ghost use Rattle.un_points.specs.PointMaps.{value_at, covered, covered_past, IsChangedAt, IsNextCovered};
 
 use crate::strip::{is_beyond, start};
 use crate::walk::Under;
@@ -61,8 +60,7 @@ impl<V: Drop> PointMap<V> {
     /// The map with the value at the point.
     pub fn with(&self, alloc: Global, p: Point, value: Arc<V>) -> Result<PointMap<V>, AllocError>
         ensures list { IfOk result (λ m. m ≡ insert_entry point_cmp self.now p (arc_value value)) }
-        ensures values { IfOk result (λ m. (q : Point)
-            → value_at q m ≡ (if same_point q p then Some (arc_value value) else value_at q self.now)) }
+        ensures values { IfOk result (λ m. IsChangedAt p (Some (arc_value value)) self.now m) }
     {
         Ok(PointMap {
             pairs: self.pairs.with_shared(alloc, p, value)?,
@@ -72,8 +70,7 @@ impl<V: Drop> PointMap<V> {
     /// The map without the point: an equal map, where the point has no value.
     pub fn without(&self, alloc: Global, p: Point) -> Result<PointMap<V>, AllocError>
         ensures list { IfOk result (λ m. m ≡ remove_entry (is_at (point_cmp p)) self.now) }
-        ensures values { IfOk result (λ m. (q : Point)
-            → value_at q m ≡ (if same_point q p then None else value_at q self.now)) }
+        ensures values { IfOk result (λ m. IsChangedAt p None self.now m) }
     {
         // For the proof alone.
         let _len = self.pairs.len();
@@ -86,8 +83,7 @@ impl<V: Drop> PointMap<V> {
     /// it was.
     pub fn put(&mut self, alloc: Global, p: Point, value: Arc<V>) -> Result<(), AllocError>
         ensures list { OnOk result (self.new ≡ insert_entry point_cmp self.old p (arc_value value)) }
-        ensures values { OnOk result ((q : Point) → value_at q self.new
-            ≡ (if same_point q p then Some (arc_value value) else value_at q self.old)) }
+        ensures values { OnOk result (IsChangedAt p (Some (arc_value value)) self.old self.new) }
         ensures err { OnErr result (self.new ≡ self.old) }
     {
         self.pairs.put(alloc, p, value)?;
@@ -98,8 +94,7 @@ impl<V: Drop> PointMap<V> {
     /// as it was.
     pub fn take(&mut self, alloc: Global, p: Point) -> Result<(), AllocError>
         ensures list { OnOk result (self.new ≡ remove_entry (is_at (point_cmp p)) self.old) }
-        ensures values { OnOk result ((q : Point)
-            → value_at q self.new ≡ (if same_point q p then None else value_at q self.old)) }
+        ensures values { OnOk result (IsChangedAt p None self.old self.new) }
         ensures err { OnErr result (self.new ≡ self.old) }
     {
         // For the proof alone.
@@ -126,8 +121,7 @@ impl<V: Drop> PointMap<V> {
 
     /// The first pair past the point, or of all, whose point the rectangle covers.
     pub fn next_under(&self, extent: &Rect, after: Option<Point>) -> Option<(Point, &Arc<V>)>
-        ensures rest { IfSome result (λ e. covered_past extent.now after self.now
-            ≡ pair_held e ∷ covered_past extent.now (Some e.0) self.now) }
+        ensures rest { IfSome result (λ e. IsNextCovered extent.now after self.now (pair_held e)) }
         ensures last { IfNone result (covered_past extent.now after self.now ≡ []) }
     {
         // For the proof alone.

@@ -1,3 +1,4 @@
+pub mod Results
 pub mod Kinds
 pub mod Starts
 pub mod Resolved

@@ -1,5 +1,5 @@
 -- The trace that a request asks for, with its names looked up, or why there is none.
-use Rattle.std.specs.Prelude.{ℕ, Bool, false, not, ◌||◌, List, [], ◌∷◌, map, slice_get, Option, option_and_then}
+use Rattle.std.specs.Prelude.{◌≡◌, ℕ, Bool, false, not, ◌||◌, List, [], ◌∷◌, map, slice_get, Option, option_and_then, Contains, IsSome, IsTrue}
 use Rattle.std.specs.Option.{option_map_or}
 use Rattle.un_conds.specs.Conditions.{Condition}
 use Rattle.un_conds.specs.Names.{place_of}
@@ -9,6 +9,7 @@ use Rattle.un_schema.specs.declared.place.Place.TheVariants as place
 use Rattle.un_tiers.specs.declared.setup.Setup.{Setup}
 use Rattle.un_tiers.specs.declared.tier.Tier.{Tier}
 use Rattle.un_tiers.specs.Raw.{resolves, barrier_from}
+use Rattle.un_defs.specs.declared.port.Node.{Node}
 use Rattle.un_defs.specs.declared.refusal.Refusal.{Refusal}
 use Rattle.un_defs.specs.declared.refusal.Refusal.TheVariants as refusal
 use Rattle.un_defs.specs.declared.walk.Barriers.{Barriers}
@@ -20,9 +21,9 @@ use Rattle.un_ask.specs.declared.trace.NamedFunc.TheVariants as named
 use Rattle.un_ask.specs.declared.typed.Func.{Func}
 use Rattle.un_ask.specs.declared.typed.Func.TheVariants as func
 use Rattle.un_ask.specs.declared.typed.TypedAsk.{TypedAsk}
-use Rattle.un_resolve.specs.Kinds.{is_always_consistent, lacking}
+use Rattle.un_resolve.specs.Kinds.{is_isolation, is_always_consistent, lacking}
 use Rattle.un_resolve.specs.Starts.{given_starts, tier_of, start_nodes, starts_refusal}
-use Rattle.un_resolve.specs.Valves.{valves_refusal}
+use Rattle.un_resolve.specs.Valves.{isolates, valves_refusal}
 
 -- ---- conditions
 
@@ -83,6 +84,15 @@ resolved S F ask = record {
   include = ask.include;
   functions = map (func_of S.schema) ask.functions;
 }
+
+-- a trace for isolation has a condition for isolating devices
+abbrev pub HasIsolators : Setup → TraceAsk → Type 0
+HasIsolators S ask = IsTrue (is_isolation ask.kind) → IsSome (condition_of S.schema ask.isolators)
+
+-- a trace for isolation starts on no isolating device
+abbrev pub StartsAreClear : Setup → Features → TraceAsk → Type 0
+StartsAreClear S F ask = IsTrue (is_isolation ask.kind) → (n : Node) →
+    Contains (start_nodes S F ask) n → isolates S.schema F (condition_of S.schema ask.isolators) n.port ≡ false
 
 -- a trace for isolation starts on an isolating device
 abbrev pub valve_refusal : Setup → Features → TraceAsk → Option Refusal

@@ -1,11 +1,11 @@
 -- Where a trace starts, and in which tier it walks.
-use Rattle.std.specs.Prelude.{ℕ, ◌==◌, not, ◌&&◌, if◌then◌else◌, List, [], ◌∷◌, map, filter_map, length, Option, Some, None, is_some, option_and_then}
+use Rattle.std.specs.Prelude.{ℕ, ◌==◌, not, ◌&&◌, if◌then◌else◌, List, [], ◌∷◌, map, filter_map, length, Option, Some, None, is_some, option_and_then, Contains}
 use Rattle.un_defs.specs.declared.port.Port.{Port}
 use Rattle.un_defs.specs.declared.port.Node.{Node}
 use Rattle.un_defs.specs.declared.refusal.Refusal.{Refusal}
 use Rattle.un_defs.specs.declared.refusal.Refusal.TheVariants as refusal
 use Rattle.un_defs.specs.Features.{Features, row, controllers_of}
-use Rattle.un_defs.specs.Ports.{port_node}
+use Rattle.un_defs.specs.Ports.{port_node, nodes}
 use Rattle.un_defs.specs.Refusing.{first_refusal, refused_if}
 use Rattle.un_tiers.specs.Lists.{tier_named}
 use Rattle.un_tiers.specs.declared.setup.Setup.{Setup}
@@ -64,6 +64,10 @@ nodes_of F ports = filter_map (start_node F) ports
 
 abbrev pub start_nodes : Setup → Features → TraceAsk → List Node
 start_nodes S F ask = nodes_of F (start_ports S F ask)
+
+-- each start is a node of the features
+abbrev pub StartsAreNodes : Setup → Features → TraceAsk → Type 0
+StartsAreNodes S F ask = (n : Node) → Contains (start_nodes S F ask) n → Contains (nodes F) n
 
 -- The first refusal of the starts. Each cause is looked at over all ports before the next one is.
 abbrev pub starts_refusal : Setup → Features → TraceAsk → Option Refusal

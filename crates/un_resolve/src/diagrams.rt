@@ -1,7 +1,6 @@
 //! Diagrams, by the features' ports and the schema's names.
 
-ghost use Rattle.std.specs.Prelude.{◌≡◌, ◌≢◌, Ok, Err, IfOk, IfErr};
-ghost use Rattle.un_defs.specs.declared.refusal.Refusal.TheVariants.{Memory};
+ghost use Rattle.un_resolve.specs.Results.{ResolvesTo, RefusesWith};
 ghost use Rattle.un_resolve.specs.Walks.{condition_asked, diagram_asked};
 
 use crate::names::condition;
@@ -21,8 +20,8 @@ fn condition_asked(
     given: &RawCondition,
     place: Place,
 ) -> Result<Cond, Refusal>
-    ensures found { IfOk result (λ cond. condition_asked schema.now given.now place ≡ Ok cond) }
-    ensures bad { IfErr result (λ r. r ≢ Memory → condition_asked schema.now given.now place ≡ Err r) }
+    ensures found { ResolvesTo result (condition_asked schema.now given.now place) }
+    ensures bad { RefusesWith result (condition_asked schema.now given.now place) }
 {
     match Cond::resolve(alloc, given.raw(), schema) {
         Ok(cond) => Ok(cond),
@@ -41,10 +40,8 @@ pub fn resolve_diagram<D: Directory>(
     features: &D,
     ask: &NamedDiagram,
 ) -> Result<DiagramAsk, Refusal>
-    ensures typed { IfOk result (λ typed.
-        diagram_asked schema.now (D.features features.now) ask.now ≡ Ok typed) }
-    ensures bad { IfErr result (λ r. r ≢ Memory
-        → diagram_asked schema.now (D.features features.now) ask.now ≡ Err r) }
+    ensures typed { ResolvesTo result (diagram_asked schema.now (D.features features.now) ask.now) }
+    ensures bad { RefusesWith result (diagram_asked schema.now (D.features features.now) ask.now) }
 {
     let ports = ask.starts.as_slice();
     check_features(features, ports)?;

@@ -1,7 +1,7 @@
 //! Conditions, functions and the tier, by the schema's names.
 
-ghost use Rattle.std.specs.Prelude.{◌≡◌, ◌≢◌, map, Some, None, IfOk, OnOk, IfErr};
-ghost use Rattle.un_defs.specs.declared.refusal.Refusal.TheVariants.{Memory};
+ghost use Rattle.std.specs.Prelude.{◌≡◌, map, None, IfOk, OnOk};
+ghost use Rattle.un_defs.specs.Refusing.{Refuses};
 ghost use Rattle.un_resolve.specs.Starts.{tier_of};
 ghost use Rattle.un_resolve.specs.Resolved.{condition_of, bad_condition, conditions_refusal, tier_barrier, tier_disjoint, func_of};
 
@@ -28,7 +28,7 @@ pub(crate) fn condition(
 ) -> Result<Option<Cond>, Refusal>
     ensures found { IfOk result (λ cond. cond ≡ condition_of schema.now given.now) }
     ensures good { OnOk result (bad_condition schema.now given.now place ≡ None) }
-    ensures bad { IfErr result (λ r. r ≢ Memory → bad_condition schema.now given.now place ≡ Some r) }
+    ensures bad { Refuses result (bad_condition schema.now given.now place) }
 {
     let Some(given) = given else {
         return Ok(None);
@@ -49,7 +49,7 @@ pub(crate) fn conditions_of(
     ensures isolators { IfOk result (λ c. c.isolators ≡ condition_of schema.now ask.now.isolators) }
     ensures barriers { IfOk result (λ c. c.barriers ≡ condition_of schema.now ask.now.barriers) }
     ensures good { OnOk result (conditions_refusal schema.now ask.now ≡ None) }
-    ensures bad { IfErr result (λ r. r ≢ Memory → conditions_refusal schema.now ask.now ≡ Some r) }
+    ensures bad { Refuses result (conditions_refusal schema.now ask.now) }
 {
     let isolators = condition(alloc, schema, &ask.isolators, Place::Isolators)?;
     let barriers = condition(alloc, schema, &ask.barriers, Place::Barriers)?;

@@ -1,8 +1,7 @@
 //! Paths and checks, by the features' ports and the schema's names.
 
-ghost use Rattle.std.specs.Prelude.{◌≡◌, ◌≢◌, ◌∷◌, [], Contains, Some, None, Ok, Err, IfOk, IfErr};
-ghost use Rattle.un_defs.specs.declared.refusal.Refusal.TheVariants.{Memory};
-ghost use Rattle.un_defs.specs.Ports.{nodes};
+ghost use Rattle.std.specs.Prelude.{◌≡◌, IfOk};
+ghost use Rattle.un_resolve.specs.Results.{ResolvesTo, RefusesWith};
 ghost use Rattle.un_resolve.specs.Resolved.{condition_of};
 ghost use Rattle.un_resolve.specs.Walks.{barriers_with, node_at, weight_of, ends_asked, path_asked, check_asked};
 
@@ -79,10 +78,8 @@ fn ends_of<D: Directory>(
     given: &Option<RawCondition>,
     stops: &Ports,
 ) -> Result<Ends, Refusal>
-    ensures ends { IfOk result (λ ends.
-        ends_asked schema.now (D.features features.now) from to given.now stops.now ≡ Ok ends) }
-    ensures bad { IfErr result (λ r. r ≢ Memory
-        → ends_asked schema.now (D.features features.now) from to given.now stops.now ≡ Err r) }
+    ensures ends { ResolvesTo result (ends_asked schema.now (D.features features.now) from to given.now stops.now) }
+    ensures bad { RefusesWith result (ends_asked schema.now (D.features features.now) from to given.now stops.now) }
 {
     let ports = [from, to];
     check_features(features, &ports)?;
@@ -103,10 +100,8 @@ pub fn resolve_path<D: Directory>(
     features: &D,
     ask: &NamedPath,
 ) -> Result<PathAsk, Refusal>
-    ensures typed { IfOk result (λ typed.
-        path_asked schema.now (D.features features.now) ask.now ≡ Ok typed) }
-    ensures bad { IfErr result (λ r. r ≢ Memory
-        → path_asked schema.now (D.features features.now) ask.now ≡ Err r) }
+    ensures typed { ResolvesTo result (path_asked schema.now (D.features features.now) ask.now) }
+    ensures bad { RefusesWith result (path_asked schema.now (D.features features.now) ask.now) }
 {
     let ends = ends_of(
         alloc,
@@ -134,10 +129,8 @@ pub fn resolve_check<D: Directory>(
     features: &D,
     ask: &NamedCheck,
 ) -> Result<CheckAsk, Refusal>
-    ensures typed { IfOk result (λ typed.
-        check_asked schema.now (D.features features.now) ask.now ≡ Ok typed) }
-    ensures bad { IfErr result (λ r. r ≢ Memory
-        → check_asked schema.now (D.features features.now) ask.now ≡ Err r) }
+    ensures typed { ResolvesTo result (check_asked schema.now (D.features features.now) ask.now) }
+    ensures bad { RefusesWith result (check_asked schema.now (D.features features.now) ask.now) }
 {
     let ends = ends_of(
         alloc,

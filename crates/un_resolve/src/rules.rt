@@ -1,8 +1,7 @@
 //! Rules, by the schema's names.
 
-ghost use Rattle.std.specs.Prelude.{◌≡◌, ◌≢◌, ◌∷◌, [], IsTrue, Some, None, IfOk, OnOk, IfErr};
-ghost use Rattle.un_defs.specs.declared.refusal.Refusal.TheVariants.{Memory};
-ghost use Rattle.un_defs.specs.Refusing.{first_refusal};
+ghost use Rattle.std.specs.Prelude.{◌≡◌, ◌∷◌, [], IsTrue, Some, None, IfOk, OnOk};
+ghost use Rattle.un_defs.specs.Refusing.{first_refusal, Refuses};
 ghost use Rattle.un_schema.specs.Catalog.{kind_named};
 ghost use Rattle.un_schema.specs.Fits.{has_classes};
 ghost use Rattle.un_resolve.specs.Rules.{both, no_kind, numbered, unknown_kind, naming_refusal};
@@ -16,7 +15,7 @@ use un_schema::{Name, Rule, Schema};
 fn kind_of(alloc: Global, schema: &Schema, name: &Name) -> Result<u16, Refusal>
     ensures number { IfOk result (λ k. kind_named schema.now name.now ≡ Some k) }
     ensures good { OnOk result (no_kind schema.now name.now ≡ None) }
-    ensures bad { IfErr result (λ r. r ≢ Memory → no_kind schema.now name.now ≡ Some r) }
+    ensures bad { Refuses result (no_kind schema.now name.now) }
 {
     match schema.kind(name.text()) {
         Some(kind) => Ok(kind),
@@ -31,8 +30,7 @@ fn both(alloc: Global, schema: &Schema, first: &Name, second: &Name) -> Result<(
     ensures numbers { IfOk result (λ k. both schema.now first.now second.now ≡ Some k) }
     ensures good { OnOk result
         (first_refusal (no_kind schema.now first.now ∷ no_kind schema.now second.now ∷ []) ≡ None) }
-    ensures bad { IfErr result (λ r. r ≢ Memory
-        → first_refusal (no_kind schema.now first.now ∷ no_kind schema.now second.now ∷ []) ≡ Some r) }
+    ensures bad { Refuses result (first_refusal (no_kind schema.now first.now ∷ no_kind schema.now second.now ∷ [])) }
 {
     let first = kind_of(alloc, schema, first)?;
     let second = kind_of(alloc, schema, second)?;
@@ -43,7 +41,7 @@ fn both(alloc: Global, schema: &Schema, first: &Name, second: &Name) -> Result<(
 fn numbered(alloc: Global, schema: &Schema, rule: &NamedRule) -> Result<Rule, Refusal>
     ensures numbers { IfOk result (λ r. numbered schema.now rule.now ≡ Some r) }
     ensures good { OnOk result (unknown_kind schema.now rule.now ≡ None) }
-    ensures bad { IfErr result (λ r. r ≢ Memory → unknown_kind schema.now rule.now ≡ Some r) }
+    ensures bad { Refuses result (unknown_kind schema.now rule.now) }
 {
     match rule {
         NamedRule::JunctionEdge {
@@ -108,7 +106,7 @@ pub fn resolve_rule(alloc: Global, schema: &Schema, rule: &NamedRule) -> Result<
     ensures numbers { IfOk result (λ r. numbered schema.now rule.now ≡ Some r) }
     ensures classes { IfOk result (λ r. IsTrue (has_classes schema.now r)) }
     ensures good { OnOk result (naming_refusal schema.now rule.now ≡ None) }
-    ensures bad { IfErr result (λ r. r ≢ Memory → naming_refusal schema.now rule.now ≡ Some r) }
+    ensures bad { Refuses result (naming_refusal schema.now rule.now) }
 {
     let rule = numbered(alloc, schema, rule)?;
     if !schema.has_classes(&rule) {

@@ -1,8 +1,7 @@
 //! Where a trace starts, and in which tier it walks.
 
-ghost use Rattle.std.specs.Prelude.{◌≡◌, ◌≢◌, map, Some, None, IfOk, OnOk, IfErr};
-ghost use Rattle.un_defs.specs.declared.refusal.Refusal.TheVariants.{Memory};
-ghost use Rattle.un_defs.specs.Refusing.{first_refusal};
+ghost use Rattle.std.specs.Prelude.{◌≡◌, map, Some, None, IfOk, OnOk, IfErr};
+ghost use Rattle.un_defs.specs.Refusing.{first_refusal, Refuses};
 ghost use Rattle.un_resolve.specs.Starts.{given_starts, start_node, no_feature, no_start, tier_of, no_tier, controller_ports, no_subnet, start_ports, nodes_of, start_nodes, starts_refusal};
 
 use crate::kinds::is_subnetwork;
@@ -129,8 +128,7 @@ fn start_ports<D: Directory>(
     ensures ports { IfOk result (λ ports. ports.items
         ≡ start_ports setup.now (D.features features.now) ask.now) }
     ensures good { OnOk result (no_subnet setup.now (D.features features.now) ask.now ≡ None) }
-    ensures bad { IfErr result (λ r. r ≢ Memory
-        → no_subnet setup.now (D.features features.now) ask.now ≡ Some r) }
+    ensures bad { Refuses result (no_subnet setup.now (D.features features.now) ask.now) }
 {
     if !is_subnetwork(ask.kind) {
         return Ok(ask.starts.as_slice().to_vec(alloc)?);
@@ -155,8 +153,7 @@ pub(crate) fn starts_of<D: Directory>(
     ensures tier { IfOk result (λ s. s.tier ≡ tier_of setup.now ask.now) }
     ensures found { OnOk result (no_tier setup.now ask.now ≡ None) }
     ensures good { OnOk result (starts_refusal setup.now (D.features features.now) ask.now ≡ None) }
-    ensures bad { IfErr result (λ r. r ≢ Memory
-        → starts_refusal setup.now (D.features features.now) ask.now ≡ Some r) }
+    ensures bad { Refuses result (starts_refusal setup.now (D.features features.now) ask.now) }
 {
     let given = given_starts(ask);
     check_features(features, given)?;

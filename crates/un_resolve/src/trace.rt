@@ -1,13 +1,10 @@
 //! The call that looks up the names of a trace.
 
-ghost use Rattle.std.specs.Prelude.{◌≡◌, ◌≢◌, Contains, false, Some, None, IsSome, IsTrue, IfOk, OnOk, IfErr};
-ghost use Rattle.un_defs.specs.declared.refusal.Refusal.TheVariants.{Memory};
-ghost use Rattle.un_defs.specs.declared.port.Node.{Node};
-ghost use Rattle.un_defs.specs.Ports.{nodes};
-ghost use Rattle.un_resolve.specs.Kinds.{needs_tier, is_isolation};
-ghost use Rattle.un_resolve.specs.Starts.{tier_of, start_nodes};
-ghost use Rattle.un_resolve.specs.Valves.{isolates};
-ghost use Rattle.un_resolve.specs.Resolved.{condition_of, barriers_of, resolved, resolving_refusal};
+ghost use Rattle.std.specs.Prelude.{◌≡◌, None, IsSome, IsTrue, IfOk, OnOk};
+ghost use Rattle.un_defs.specs.Refusing.{Refuses};
+ghost use Rattle.un_resolve.specs.Kinds.{needs_tier};
+ghost use Rattle.un_resolve.specs.Starts.{tier_of, start_nodes, StartsAreNodes};
+ghost use Rattle.un_resolve.specs.Resolved.{condition_of, barriers_of, resolved, resolving_refusal, HasIsolators, StartsAreClear};
 
 use crate::kinds::{is_always_consistent, lacking};
 use crate::names::{Conditions, conditions_of, copy_name, functions, tier_barrier, tier_disjoint};
@@ -89,21 +86,14 @@ pub fn resolve<D: Directory>(
 ) -> Result<TypedAsk, Refusal>
     ensures typed { IfOk result (λ typed. typed ≡ resolved setup.now (D.features features.now) ask.now) }
     // Each start is a node of the features.
-    ensures starts { OnOk result ((n : Node)
-        → Contains (start_nodes setup.now (D.features features.now) ask.now) n
-        → Contains (nodes (D.features features.now)) n) }
+    ensures starts { OnOk result (StartsAreNodes setup.now (D.features features.now) ask.now) }
     ensures good { OnOk result (resolving_refusal setup.now (D.features features.now) ask.now ≡ None) }
     // A trace that walks in a tier has one.
     ensures tier { OnOk result (IsTrue (needs_tier ask.now.kind) → IsSome (tier_of setup.now ask.now)) }
     // A trace for isolation has a condition for isolating devices, and starts on none.
-    ensures isolators { OnOk result (IsTrue (is_isolation ask.now.kind)
-        → IsSome (condition_of setup.now.schema ask.now.isolators)) }
-    ensures clear { OnOk result (IsTrue (is_isolation ask.now.kind)
-        → (n : Node) → Contains (start_nodes setup.now (D.features features.now) ask.now) n
-        → isolates setup.now.schema (D.features features.now)
-        (condition_of setup.now.schema ask.now.isolators) n.port ≡ false) }
-    ensures bad { IfErr result (λ r. r ≢ Memory
-        → resolving_refusal setup.now (D.features features.now) ask.now ≡ Some r) }
+    ensures isolators { OnOk result (HasIsolators setup.now ask.now) }
+    ensures clear { OnOk result (StartsAreClear setup.now (D.features features.now) ask.now) }
+    ensures bad { Refuses result (resolving_refusal setup.now (D.features features.now) ask.now) }
 {
     if let Some(refusal) = lacking(ask) {
         return Err(refusal);

@@ -6,9 +6,12 @@ use Rattle.un_defs.specs.declared.row.Row.{Row}
 use Rattle.un_defs.specs.declared.edit.Edit.{Edit}
 use Rattle.un_defs.specs.declared.edit.Edit.TheVariants as edit
 use Rattle.un_defs.specs.Features.{Features}
+use Rattle.un_defs.specs.Sound.{FitsKind}
 use Rattle.un_defs.specs.Change.{Setting, Next, changed, change_row}
 use Rattle.un_defs.specs.Laws.{MayBeMade}
+use Rattle.un_store.specs.declared.change.RowChange.{RowChange}
 use Rattle.un_store.specs.Keyed.{row_with}
+use Rattle.un_store.specs.Changes.{applied}
 
 abbrev pub setting_of : Catalog → Setting
 setting_of S = record { catalog = S; tiers = [] }
@@ -23,6 +26,10 @@ only_rows rows = record { rows = rows; associations = []; controllers = []; rule
 abbrev pub rows_after : Catalog → ℕ → ℕ → List Row → Edit → List Row
 rows_after S id moment rows e = (changed (setting_of S) (next_of id moment) (only_rows rows) e).rows
 
+-- the change leaves the rows that the edit leaves
+abbrev pub IsChangeOf : Catalog → ℕ → ℕ → List Row → Edit → RowChange → Type 0
+IsChangeOf S id moment rows e change = applied rows change ≡ rows_after S id moment rows e
+
 -- the rows that an edit leaves are told by the rows alone, whatever else the network has
 abbrev pub RowsAloneLaw : Type 0
 RowsAloneLaw = (T : Setting) (next : Next) (F : Features) (e : Edit) →
@@ -31,6 +38,10 @@ RowsAloneLaw = (T : Setting) (next : Next) (F : Features) (e : Edit) →
 -- the row that the edit makes or changes fits its kind
 abbrev pub Fits : Catalog → ℕ → ℕ → List Row → Edit → Type 0
 Fits S id moment rows e = MayBeMade (setting_of S) (next_of id moment) (only_rows rows) e
+
+-- where all rows fit their kinds, so does the row that the edit makes or changes
+abbrev pub KeepsFit : Catalog → ℕ → ℕ → List Row → Edit → Type 0
+KeepsFit S id moment rows e = All (FitsKind S) rows → Fits S id moment rows e
 
 -- the edits that make a row, or change what its kind asks of it
 abbrev pub IsOfRow : Edit → Type 0

@@ -8,6 +8,7 @@ ghost use Rattle.un_schema.specs.Catalog.{kind_named, path_named, place_of};
 ghost use Rattle.un_defs.specs.declared.refusal.Refusal.TheVariants.{Memory};
 ghost use Rattle.un_defs.specs.Change.{numbered};
 ghost use Rattle.un_defs.specs.Sound.{least_points, most_points};
+ghost use Rattle.un_defs.specs.Refusing.{Refuses};
 ghost use Rattle.un_store.specs.Refusals.{no_kind, not_plain, bad_shape, bad_attribute, numbers_of, no_room, no_line, no_path, other_class, same_class};
 
 use crate::store::Store;
@@ -22,7 +23,7 @@ pub(crate) fn kind_number(alloc: Global, schema: &Schema, name: &Name) -> Result
     ensures kind { IfOk result (λ kind. kind_named schema.now name.now ≡ Some kind) }
     ensures known { IfOk result (λ kind. kind < length schema.now.kinds) }
     ensures good { OnOk result (no_kind schema.now name.now ≡ None) }
-    ensures bad { IfErr result (λ refusal. refusal ≢ Memory → no_kind schema.now name.now ≡ Some refusal) }
+    ensures bad { Refuses result (no_kind schema.now name.now) }
 {
     match schema.kind(name.text()) {
         Some(kind) => Ok(kind),
@@ -68,7 +69,7 @@ pub(crate) fn shape_of(alloc: Global, class: Class, points: &Triples) -> Result<
     ensures enough { OnOk result (least_points class ≤ length points.now) }
     ensures few { OnOk result (length points.now ≤ most_points class) }
     ensures good { OnOk result (bad_shape class points.now ≡ None) }
-    ensures bad { IfErr result (λ refusal. refusal ≢ Memory → bad_shape class points.now ≡ Some refusal) }
+    ensures bad { Refuses result (bad_shape class points.now) }
 {
     let (least, most) = counts(class);
     match Shape::new(alloc, least, most, points.as_slice()) {
@@ -82,8 +83,7 @@ pub(crate) fn shape_of(alloc: Global, class: Class, points: &Triples) -> Result<
 pub(crate) fn attrs_of(alloc: Global, schema: &Schema, attrs: &NamedAttrs) -> Result<Attrs, Refusal>
     ensures attrs { IfOk result (λ given. given ≡ numbered schema.now attrs.now) }
     ensures good { OnOk result (bad_attribute schema.now attrs.now ≡ None) }
-    ensures bad { IfErr result (λ refusal. refusal ≢ Memory
-        → bad_attribute schema.now attrs.now ≡ Some refusal) }
+    ensures bad { Refuses result (bad_attribute schema.now attrs.now) }
 {
     let named = attrs.as_slice();
     let pairs = numbers_of(alloc, schema, named)?;

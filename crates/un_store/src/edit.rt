@@ -1,10 +1,10 @@
 //! Any edit of rows.
-ghost use Rattle.std.specs.Prelude.{◌≡◌, ◌≢◌, ◌<◌, All, Some, None, IfOk, OnOk, IfErr};
-ghost use Rattle.un_defs.specs.declared.refusal.Refusal.TheVariants.{Memory};
-ghost use Rattle.un_store.specs.Changes.{applied, id_of};
+ghost use Rattle.std.specs.Prelude.{◌≡◌, ◌<◌, All, None, IfOk, OnOk};
+ghost use Rattle.un_store.specs.Changes.{id_of};
 ghost use Rattle.un_store.specs.Words.{row_of, IsRowEdit};
+ghost use Rattle.un_defs.specs.Refusing.{Refuses};
 ghost use Rattle.un_store.specs.Refusals.{refusal_of};
-ghost use Rattle.un_store.specs.Edits.{rows_after};
+ghost use Rattle.un_store.specs.Edits.{IsChangeOf};
 
 use crate::change::RowChange;
 use crate::store::Store;
@@ -27,12 +27,10 @@ impl Store {
     ) -> Result<RowChange, Refusal>
         requires word { IsRowEdit edit.now }
         requires next { All (λ r. r.id < next) self.now }
-        ensures rows { IfOk result (λ change. applied self.now change
-            ≡ rows_after schema.now next moment self.now edit.now) }
+        ensures rows { IfOk result (IsChangeOf schema.now next moment self.now edit.now) }
         ensures id { IfOk result (λ change. id_of change ≡ row_of next edit.now) }
         ensures good { OnOk result (refusal_of schema.now self.now edit.now ≡ None) }
-        ensures bad { IfErr result (λ refusal. refusal ≢ Memory
-            → refusal_of schema.now self.now edit.now ≡ Some refusal) }
+        ensures bad { Refuses result (refusal_of schema.now self.now edit.now) }
     {
         match edit {
             Edit::Insert { .. } => self.insert(alloc, edit, schema, next, moment),

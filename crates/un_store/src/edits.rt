@@ -1,12 +1,11 @@
 //! Edits of a row that is there, and the moment that the rows of a batch get.
-ghost use Rattle.std.specs.Prelude.{◌≡◌, ◌≢◌, All, Some, None, IfOk, OnOk, IfErr};
-ghost use Rattle.un_defs.specs.declared.refusal.Refusal.TheVariants.{Memory};
-ghost use Rattle.un_defs.specs.Sound.{FitsKind};
-ghost use Rattle.un_store.specs.Changes.{applied, id_of};
+ghost use Rattle.std.specs.Prelude.{◌≡◌, None, IfOk, OnOk};
+ghost use Rattle.un_store.specs.Changes.{id_of};
 ghost use Rattle.un_store.specs.Words.{row_of, IsReshape, IsAttrs, IsKind, IsPath, IsFlow, IsEnds, IsNote, IsDelete};
+ghost use Rattle.un_defs.specs.Refusing.{Refuses};
 ghost use Rattle.un_store.specs.Refusals.{refusal_of};
 ghost use Rattle.un_defs.specs.Change.{change_row};
-ghost use Rattle.un_store.specs.Edits.{rows_after, only_rows, at_moment, Fits, settled};
+ghost use Rattle.un_store.specs.Edits.{only_rows, at_moment, settled, IsChangeOf, KeepsFit};
 
 use crate::change::RowChange;
 use crate::checks::{attrs_of, check_class, check_line, kind_number, path_of, shape_of};
@@ -29,14 +28,11 @@ impl Store {
         moment: u64,
     ) -> Result<RowChange, Refusal>
         requires word { IsReshape edit.now }
-        ensures rows { IfOk result (λ change. applied self.now change
-            ≡ rows_after schema.now next moment self.now edit.now) }
+        ensures rows { IfOk result (IsChangeOf schema.now next moment self.now edit.now) }
         ensures id { IfOk result (λ change. id_of change ≡ row_of next edit.now) }
         ensures good { OnOk result (refusal_of schema.now self.now edit.now ≡ None) }
-        ensures bad { IfErr result (λ refusal. refusal ≢ Memory
-            → refusal_of schema.now self.now edit.now ≡ Some refusal) }
-        ensures fits { OnOk result (All (FitsKind schema.now) self.now
-            → Fits schema.now next moment self.now edit.now) }
+        ensures bad { Refuses result (refusal_of schema.now self.now edit.now) }
+        ensures fits { OnOk result (KeepsFit schema.now next moment self.now edit.now) }
     {
         let Edit::Reshape { id, base, points } = edit else {
             unreachable!()
@@ -60,12 +56,10 @@ impl Store {
         moment: u64,
     ) -> Result<RowChange, Refusal>
         requires word { IsAttrs edit.now }
-        ensures rows { IfOk result (λ change. applied self.now change
-            ≡ rows_after schema.now next moment self.now edit.now) }
+        ensures rows { IfOk result (IsChangeOf schema.now next moment self.now edit.now) }
         ensures id { IfOk result (λ change. id_of change ≡ row_of next edit.now) }
         ensures good { OnOk result (refusal_of schema.now self.now edit.now ≡ None) }
-        ensures bad { IfErr result (λ refusal. refusal ≢ Memory
-            → refusal_of schema.now self.now edit.now ≡ Some refusal) }
+        ensures bad { Refuses result (refusal_of schema.now self.now edit.now) }
     {
         let Edit::Attrs { id, base, attrs } = edit else {
             unreachable!()
@@ -90,14 +84,11 @@ impl Store {
         moment: u64,
     ) -> Result<RowChange, Refusal>
         requires word { IsKind edit.now }
-        ensures rows { IfOk result (λ change. applied self.now change
-            ≡ rows_after schema.now next moment self.now edit.now) }
+        ensures rows { IfOk result (IsChangeOf schema.now next moment self.now edit.now) }
         ensures id { IfOk result (λ change. id_of change ≡ row_of next edit.now) }
         ensures good { OnOk result (refusal_of schema.now self.now edit.now ≡ None) }
-        ensures bad { IfErr result (λ refusal. refusal ≢ Memory
-            → refusal_of schema.now self.now edit.now ≡ Some refusal) }
-        ensures fits { OnOk result (All (FitsKind schema.now) self.now
-            → Fits schema.now next moment self.now edit.now) }
+        ensures bad { Refuses result (refusal_of schema.now self.now edit.now) }
+        ensures fits { OnOk result (KeepsFit schema.now next moment self.now edit.now) }
     {
         let Edit::Kind { id, base, kind } = edit else {
             unreachable!()
@@ -127,14 +118,11 @@ impl Store {
         moment: u64,
     ) -> Result<RowChange, Refusal>
         requires word { IsPath edit.now }
-        ensures rows { IfOk result (λ change. applied self.now change
-            ≡ rows_after schema.now next moment self.now edit.now) }
+        ensures rows { IfOk result (IsChangeOf schema.now next moment self.now edit.now) }
         ensures id { IfOk result (λ change. id_of change ≡ row_of next edit.now) }
         ensures good { OnOk result (refusal_of schema.now self.now edit.now ≡ None) }
-        ensures bad { IfErr result (λ refusal. refusal ≢ Memory
-            → refusal_of schema.now self.now edit.now ≡ Some refusal) }
-        ensures fits { OnOk result (All (FitsKind schema.now) self.now
-            → Fits schema.now next moment self.now edit.now) }
+        ensures bad { Refuses result (refusal_of schema.now self.now edit.now) }
+        ensures fits { OnOk result (KeepsFit schema.now next moment self.now edit.now) }
     {
         let Edit::Path { id, base, path } = edit else {
             unreachable!()
@@ -161,12 +149,10 @@ impl Store {
         moment: u64,
     ) -> Result<RowChange, Refusal>
         requires word { IsFlow edit.now }
-        ensures rows { IfOk result (λ change. applied self.now change
-            ≡ rows_after schema.now next moment self.now edit.now) }
+        ensures rows { IfOk result (IsChangeOf schema.now next moment self.now edit.now) }
         ensures id { IfOk result (λ change. id_of change ≡ row_of next edit.now) }
         ensures good { OnOk result (refusal_of schema.now self.now edit.now ≡ None) }
-        ensures bad { IfErr result (λ refusal. refusal ≢ Memory
-            → refusal_of schema.now self.now edit.now ≡ Some refusal) }
+        ensures bad { Refuses result (refusal_of schema.now self.now edit.now) }
     {
         let Edit::Flow { id, base, flow } = edit else {
             unreachable!()
@@ -191,12 +177,10 @@ impl Store {
         moment: u64,
     ) -> Result<RowChange, Refusal>
         requires word { IsEnds edit.now }
-        ensures rows { IfOk result (λ change. applied self.now change
-            ≡ rows_after schema.now next moment self.now edit.now) }
+        ensures rows { IfOk result (IsChangeOf schema.now next moment self.now edit.now) }
         ensures id { IfOk result (λ change. id_of change ≡ row_of next edit.now) }
         ensures good { OnOk result (refusal_of schema.now self.now edit.now ≡ None) }
-        ensures bad { IfErr result (λ refusal. refusal ≢ Memory
-            → refusal_of schema.now self.now edit.now ≡ Some refusal) }
+        ensures bad { Refuses result (refusal_of schema.now self.now edit.now) }
     {
         let Edit::Ends { id, base, ends } = edit else {
             unreachable!()
@@ -222,12 +206,10 @@ impl Store {
         moment: u64,
     ) -> Result<RowChange, Refusal>
         requires word { IsNote edit.now }
-        ensures rows { IfOk result (λ change. applied self.now change
-            ≡ rows_after schema.now next moment self.now edit.now) }
+        ensures rows { IfOk result (IsChangeOf schema.now next moment self.now edit.now) }
         ensures id { IfOk result (λ change. id_of change ≡ row_of next edit.now) }
         ensures good { OnOk result (refusal_of schema.now self.now edit.now ≡ None) }
-        ensures bad { IfErr result (λ refusal. refusal ≢ Memory
-            → refusal_of schema.now self.now edit.now ≡ Some refusal) }
+        ensures bad { Refuses result (refusal_of schema.now self.now edit.now) }
     {
         let Edit::Note { id, base, note } = edit else {
             unreachable!()
@@ -252,12 +234,10 @@ impl Store {
         moment: u64,
     ) -> Result<RowChange, Refusal>
         requires word { IsDelete edit.now }
-        ensures rows { IfOk result (λ change. applied self.now change
-            ≡ rows_after schema.now next moment self.now edit.now) }
+        ensures rows { IfOk result (IsChangeOf schema.now next moment self.now edit.now) }
         ensures id { IfOk result (λ change. id_of change ≡ row_of next edit.now) }
         ensures good { OnOk result (refusal_of schema.now self.now edit.now ≡ None) }
-        ensures bad { IfErr result (λ refusal. refusal ≢ Memory
-            → refusal_of schema.now self.now edit.now ≡ Some refusal) }
+        ensures bad { Refuses result (refusal_of schema.now self.now edit.now) }
     {
         let Edit::Delete { id, base } = edit else {
             unreachable!()

@@ -1,10 +1,10 @@
 //! Inserts.
-ghost use Rattle.std.specs.Prelude.{◌≡◌, ◌≢◌, ◌<◌, All, Some, None, IfOk, OnOk, IfErr};
-ghost use Rattle.un_defs.specs.declared.refusal.Refusal.TheVariants.{Memory};
-ghost use Rattle.un_store.specs.Changes.{applied, id_of};
+ghost use Rattle.std.specs.Prelude.{◌≡◌, ◌<◌, All, None, IfOk, OnOk};
+ghost use Rattle.un_store.specs.Changes.{id_of};
 ghost use Rattle.un_store.specs.Words.{row_of, IsInsert};
+ghost use Rattle.un_defs.specs.Refusing.{Refuses};
 ghost use Rattle.un_store.specs.Refusals.{refusal_of};
-ghost use Rattle.un_store.specs.Edits.{rows_after, Fits};
+ghost use Rattle.un_store.specs.Edits.{Fits, IsChangeOf};
 
 use crate::change::RowChange;
 use crate::checks::{attrs_of, check_plain, check_room, kind_number, shape_of};
@@ -30,12 +30,10 @@ impl Store {
     ) -> Result<RowChange, Refusal>
         requires word { IsInsert edit.now }
         requires next { All (λ r. r.id < next) self.now }
-        ensures rows { IfOk result (λ change. applied self.now change
-            ≡ rows_after schema.now next moment self.now edit.now) }
+        ensures rows { IfOk result (IsChangeOf schema.now next moment self.now edit.now) }
         ensures id { IfOk result (λ change. id_of change ≡ row_of next edit.now) }
         ensures good { OnOk result (refusal_of schema.now self.now edit.now ≡ None) }
-        ensures bad { IfErr result (λ refusal. refusal ≢ Memory
-            → refusal_of schema.now self.now edit.now ≡ Some refusal) }
+        ensures bad { Refuses result (refusal_of schema.now self.now edit.now) }
         ensures fits { OnOk result (Fits schema.now next moment self.now edit.now) }
     {
         let Edit::Insert {

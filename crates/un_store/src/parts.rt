@@ -1,7 +1,7 @@
 // What a row has by its kind, and copies of rows.
-ghost use Rattle.std.specs.Prelude.{◌≡◌, ◌≤◌, ◌<◌, length, Some, IfSome, IsSome, IsSomeAnd, slice_get, IfOk};
+ghost use Rattle.std.specs.Prelude.{◌≡◌, ◌≤◌, ◌<◌, Some, IfSome, IsSome, IsSomeAnd, slice_get, IfOk};
 ghost use Rattle.std.specs.Option.{option_map_or};
-ghost use Rattle.un_schema.specs.Catalog.{kind_at, config_of};
+ghost use Rattle.un_schema.specs.Catalog.{config_of};
 ghost use Rattle.un_defs.specs.Sound.{terminals_by_class as by_class};
 ghost use Rattle.un_defs.specs.Change.{first_path};
 

@@ -1,5 +1,5 @@
 -- Tiers as a schema gives them: the first bad one, and what each stands for.
-use Rattle.std.specs.Prelude.{ℕ, nat_lt, Bool, true, not, ◌&&◌, if◌then◌else◌, List, [], ◌∷◌, ◌++◌, length, Option, Some, None, is_some, option_and_then, option_map}
+use Rattle.std.specs.Prelude.{ℕ, nat_lt, Bool, true, not, ◌&&◌, if◌then◌else◌, List, [], ◌∷◌, ◌++◌, map, length, Option, Some, None, is_some, option_and_then, option_map}
 use Rattle.std.specs.List.{list_any}
 use Rattle.std.specs.Option.{option_map_or}
 use Rattle.un_conds.specs.declared.raw.RawCond.{RawCond}
@@ -51,3 +51,11 @@ first_bad attributes categories before (tier ∷ tiers) =
     if is_good attributes categories before tier
     then first_bad attributes categories (before ++ tier_from attributes categories tier ∷ []) tiers
     else Some (length before)
+
+-- the same of tiers as a schema gives them
+abbrev pub first_bad_of : List (List ℕ) → List (List ℕ) → List RawTier → Option ℕ
+first_bad_of attributes categories raw = first_bad attributes categories [] (map written_tier raw)
+
+-- what they stand for
+abbrev pub tiers_from : List (List ℕ) → List (List ℕ) → List RawTier → List Tier
+tiers_from attributes categories raw = map (tier_from attributes categories) (map written_tier raw)

@@ -1,7 +1,7 @@
-ghost use Rattle.std.specs.Prelude.{◌≡◌, ◌<◌, ◌↔◌, [], None, Some, length, map, IfOk, OnOk, IfErr, IsTrue, position, slice_get};
+ghost use Rattle.std.specs.Prelude.{◌≡◌, ◌<◌, ◌↔◌, [], None, Some, length, IfOk, OnOk, IfErr, IsTrue, position, slice_get};
 ghost use Rattle.std.specs.Option.{option_copied, option_map};
 ghost use Rattle.un_conds.specs.Names.{same_text};
-ghost use Rattle.un_tiers.specs.Raw.{written_tier, tier_from, first_bad};
+ghost use Rattle.un_tiers.specs.Raw.{tiers_from, first_bad_of};
 ghost use Rattle.un_tiers.specs.Faults.{OnBadTier};
 ghost use Rattle.un_tiers.specs.Lists.{tier_named, IsTierList};
 
@@ -41,14 +41,12 @@ impl Tiers {
     /// `BadTier` names the first whose name has not the form of a name or stands before, or whose condition is refused. Where all of
     /// the first 16 are taken and there are more, it names place 16.
     pub fn new<N: Names>(alloc: Global, raw: &[RawTier], names: &N) -> Result<Tiers, TierFault>
-        ensures ok { IfOk result (λ tiers. tiers
-            ≡ map (tier_from (N.attributes names.now) (N.categories names.now))
-            (map written_tier raw.now)) }
+        ensures ok { IfOk result
+            (λ tiers. tiers ≡ tiers_from (N.attributes names.now) (N.categories names.now) raw.now) }
         ensures good { OnOk result
-            (first_bad (N.attributes names.now) (N.categories names.now) [] (map written_tier raw.now)
-            ≡ None) }
+            (first_bad_of (N.attributes names.now) (N.categories names.now) raw.now ≡ None) }
         ensures bad { IfErr result (λ fault. OnBadTier fault
-            (λ place. first_bad (N.attributes names.now) (N.categories names.now) [] (map written_tier raw.now) ≡ Some place)) }
+            (λ place. first_bad_of (N.attributes names.now) (N.categories names.now) raw.now ≡ Some place)) }
     {
         let mut tiers = Vec::new(alloc);
         for tier in raw {

@@ -6,7 +6,7 @@ use Rattle.un_subnet.specs.Answer.{IsAnswer, walk_refusal, row_of}
 use Rattle.un_core.specs.State.{kept_ground}
 use Rattle.un_core.specs.Walked.{kept_survey, reached}
 use Rattle.un_core.specs.Updating.{IsOfWalk, row_in_reply}
-use Rattle.un_core.specs.Refusals.{Refuses}
+use Rattle.un_defs.specs.Refusing.{Refuses}
 use Rattle.un_core.proofs.Updated.{walk_kept, of_walk, row_where, none_where, refused_where}
 use Rattle.un_core.proofs.net.Net.walked_row.Goals as goal
 
