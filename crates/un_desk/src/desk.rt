@@ -11,7 +11,7 @@ ghost use Rattle.std.specs.Arc.{arc_value};
 ghost use Rattle.un_machine.specs.Logs.{Reaches};
 ghost use Rattle.un_publish.specs.Models.{AreFresh};
 ghost use Rattle.un_journal.specs.Books.{IsPrepared};
-ghost use Rattle.un_desk.specs.Desks.{IsDeskFault, IsMeetFault, IsSubmitted, counted};
+ghost use Rattle.un_desk.specs.Desks.{IsDeskFault, IsMeetFault, IsSubmitted, SeesMore, counted};
 ghost use Rattle.un_desk.specs.Views.{IsViewFault};
 
 use crate::past::Opening;
@@ -135,8 +135,8 @@ where
         b: &mut Session<M, J>,
     ) -> Result<(), Denied>
         ensures same { OnOk result (a.new.seen ≡ b.new.seen) }
-        ensures one { OnOk result (a.new ≡ record (counted a.old) { seen = a.new.seen }) }
-        ensures other { OnOk result (b.new ≡ record (counted b.old) { seen = b.new.seen }) }
+        ensures one { OnOk result (SeesMore (counted a.old) a.new) }
+        ensures other { OnOk result (SeesMore (counted b.old) b.new) }
         ensures denied { IfErr result (IsMeetFault (counted a.old) a.new (counted b.old) b.new) }
         ensures seen { IsPrefix a.old.seen a.new.seen }
         ensures seen_by_other { IsPrefix b.old.seen b.new.seen }
@@ -158,7 +158,7 @@ where
     ) -> Result<View<M>, ViewFault>
         ensures version { IfOk result (λ v. (v.version ≡ length session.new.seen) × (seen ≤ v.version)) }
         ensures state { IfOk result (λ v. Reaches M.step J.opening session.new.seen (arc_value v.state)) }
-        ensures kept { OnOk result (session.new ≡ record (counted session.old) { seen = session.new.seen }) }
+        ensures kept { OnOk result (SeesMore (counted session.old) session.new) }
         ensures fault { IfErr result (IsViewFault (counted session.old) session.new seen) }
         ensures seen { IsPrefix session.old.seen session.new.seen }
     {

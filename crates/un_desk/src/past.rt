@@ -8,7 +8,7 @@ ghost use Rattle.std.specs.Prelude.{◌≡◌, ◌≤◌, ◌<◌, ◌∷◌, []
 ghost use mathlib.Core.List.{IsPrefix};
 ghost use Rattle.std.specs.Arc.{arc_value};
 ghost use Rattle.un_asof.specs.Pasts.{IsAfter, NearLaw, pair_of, StandsFor, StandsForAll};
-ghost use Rattle.un_desk.specs.Desks.{counted};
+ghost use Rattle.un_desk.specs.Desks.{SeesMore, counted};
 ghost use Rattle.un_desk.specs.Pasts.{IsPastFault};
 
 use crate::desk::Desk;
@@ -117,7 +117,7 @@ where
         requires stands { StandsFor M.step J.opening past.old session.old.seen }
         ensures version { IfOk result (λ v. v.version ≡ at) }
         ensures state { IfOk result (λ v. IsAfter M.step J.opening session.new.seen (at, arc_value v.state)) }
-        ensures kept { OnOk result (session.new ≡ record (counted session.old) { seen = session.new.seen }) }
+        ensures kept { OnOk result (SeesMore (counted session.old) session.new) }
         ensures fault { IfErr result (IsPastFault (counted session.old) session.new at) }
         ensures seen { IsPrefix session.old.seen session.new.seen }
         ensures stands { StandsFor M.step J.opening past.new session.new.seen }
@@ -142,7 +142,7 @@ where
         at: u64,
     ) -> Result<(), PastFault>
         ensures within { OnOk result (at ≤ length session.new.seen) }
-        ensures kept { OnOk result (session.new ≡ record session.old { seen = session.new.seen }) }
+        ensures kept { OnOk result (SeesMore session.old session.new) }
         ensures fault { IfErr result (IsPastFault session.old session.new at) }
         ensures seen { IsPrefix session.old.seen session.new.seen }
     {
@@ -172,7 +172,7 @@ where
         requires stands { StandsFor M.step J.opening past.old session.old.seen }
         ensures state { IfOk result (λ v. IsAfter M.step J.opening session.new.seen (pair_of v)) }
         ensures nearer { IfOk result (λ v. (from.version < v.version) × (v.version ≤ at)) }
-        ensures kept { OnOk result (session.new ≡ record session.old { seen = session.new.seen }) }
+        ensures kept { OnOk result (SeesMore session.old session.new) }
         ensures fault { IfErr result (IsPastFault session.old session.new at) }
         ensures seen { IsPrefix session.old.seen session.new.seen }
         ensures stands { StandsFor M.step J.opening past.new session.new.seen }

@@ -16,14 +16,13 @@
 //!
 //! The cost is that of the newer view, and of gathering the entries between the two versions. Nothing depends on the
 //! length of the log or on the size of a state.
-ghost use Rattle.std.specs.Prelude.{◌≡◌, ◌≤◌, ◌<◌, ◌+◌, ◌++◌, List, [], length, take, drop, IfOk, IfErr, OnOk};
+ghost use Rattle.std.specs.Prelude.{◌≡◌, ◌≤◌, ◌<◌, ◌+◌, [], length, take, drop, IfOk, IfErr, OnOk};
 ghost use mathlib.Core.List.{IsPrefix};
 ghost use Rattle.std.specs.Arc.{arc_value};
-ghost use Rattle.un_machine.specs.declared.Entry.{Entry};
 ghost use Rattle.un_asof.specs.Pasts.{IsAfter, pair_of, StandsFor};
-ghost use Rattle.un_desk.specs.Desks.{counted};
+ghost use Rattle.un_desk.specs.Desks.{SeesMore, counted};
 ghost use Rattle.un_desk.specs.Pasts.{IsPastFault};
-ghost use Rattle.un_desk.specs.Spans.{IsGathered};
+ghost use Rattle.un_desk.specs.Spans.{IsGatheredTo, StandsForMore};
 
 use crate::desk::Desk;
 use crate::past::PastFault;
@@ -40,8 +39,9 @@ const ROUND: u64 = 1024;
 
 /// Something that is gathered from the entries of a log, batch by batch.
 pub trait Gathers<M: Machine>: Drop {
-    ghost use Rattle.std.specs.Prelude.{◌++◌, List, OnOk};
+    ghost use Rattle.std.specs.Prelude.{List, OnOk};
     ghost use Rattle.un_machine.specs.declared.Entry.{Entry};
+    ghost use Rattle.un_desk.specs.Spans.{StandsForMore};
 
     /// What has been gathered stands for these entries.
     ghost stands: { Self → List (Entry M M.Cmd M.Reply M.Hint M.Mark) → Type 0 };
@@ -49,8 +49,7 @@ pub trait Gathers<M: Machine>: Drop {
     /// Gathers from the entries that follow. It fails only if memory runs out, and then nothing is known of what has been
     /// gathered.
     fn gather(&mut self, alloc: Global, entries: &[Entry<M>]) -> Result<(), AllocError>
-        ensures { OnOk result ((before : List (Entry M M.Cmd M.Reply M.Hint M.Mark))
-            → stands self.old before → stands self.new (before ++ entries.now)) };
+        ensures { OnOk result (StandsForMore (stands self.old) (stands self.new) entries.now) };
 }
 
 impl<M: Machine, J: BoardName<M>> Desk<M, J>
@@ -80,10 +79,9 @@ where
         ensures version { IfOk result (λ v. v.version ≡ upto) }
         ensures state { IfOk result (λ v.
             IsAfter M.step J.opening session.new.seen (upto, arc_value v.state)) }
-        ensures between { IfOk result (λ v. IsGathered M.step G.stands session.new.seen
-            (pair_of since.now) (upto, arc_value v.state) gathered.new) }
-        ensures kept { OnOk result
-            (session.new ≡ record (counted session.old) { seen = session.new.seen }) }
+        ensures between { IfOk result
+            (IsGatheredTo M.step G.stands session.new.seen since.now upto gathered.new) }
+        ensures kept { OnOk result (SeesMore (counted session.old) session.new) }
         ensures fault { IfErr result (IsPastFault (counted session.old) session.new upto) }
         ensures seen { IsPrefix session.old.seen session.new.seen }
         ensures stands { StandsFor M.step J.opening past.new session.new.seen }
@@ -111,10 +109,9 @@ where
         requires before { from < upto }
         requires within { upto ≤ length session.old.seen }
         ensures some { IfOk result (λ n. (0 < n) × (from + n ≤ upto)) }
-        ensures gathered { IfOk result (λ n. (before : List (Entry M M.Cmd M.Reply M.Hint M.Mark))
-            → G.stands gathered.old before
-            → G.stands gathered.new (before ++ take n (drop from session.new.seen))) }
-        ensures kept { OnOk result (session.new ≡ record session.old { seen = session.new.seen }) }
+        ensures gathered { IfOk result (λ n. StandsForMore (G.stands gathered.old) (G.stands gathered.new)
+            (take n (drop from session.new.seen))) }
+        ensures kept { OnOk result (SeesMore session.old session.new) }
         ensures fault { IfErr result (IsPastFault session.old session.new upto) }
         ensures seen { IsPrefix session.old.seen session.new.seen }
     {

@@ -3,3 +3,4 @@ pub mod Exchanges
 pub mod Writing
 pub mod Handling
 pub mod Links
+pub mod Causes

@@ -7,14 +7,15 @@ use Rattle.un_publish.specs.Models.{SessionModel}
 use Rattle.un_http.specs.Block.{IsBlank}
 use Rattle.un_http.specs.Requests.{AreFirst, FailsAt, IsCut}
 use Rattle.un_http.specs.declared.check.Check.{Check}
-use Rattle.un_turns.specs.Served.{Answering, AreServed}
+use Rattle.un_turns.specs.declared.request.Span.{Span}
+use Rattle.un_turns.specs.Served.{Answering, AreServed, answering}
 use Rattle.un_turns.specs.Truths.{IsTruthful}
 use Rattle.un_exchange.specs.declared.asked.Asked.{Asked}
 use Rattle.un_exchange.specs.declared.end.LinkEnd.{LinkEnd}
 use Rattle.un_exchange.specs.declared.end.LinkEnd.TheVariants as ending
-use Rattle.un_exchange.specs.Pages.{http_page, memory_page, check_status}
+use Rattle.un_exchange.specs.Pages.{http_page, check_status}
 use Rattle.un_exchange.specs.Exchanges.{Printing, Exchange, IsAsked, end_after, all_bytes, received, requests, responses, AreOpen}
-use Rattle.un_exchange.specs.Writing.{Writes, page_bytes, check_end}
+use Rattle.un_exchange.specs.Writing.{WritesMemoryPage, page_bytes, check_end}
 
 module _ {M C R H K Q A : Type 0} where
   -- The exchanges of a link so far: the bytes that were read are their requests and then what is held; the session handled them in order; none
@@ -100,7 +101,7 @@ module _ {M C R H K : Type 0} where
   pub record HasNoRoom (s t : SessionModel M C R H K) (left left' taken taken' : Option (List ℕ)) (end : LinkEnd) : Type 0 where
     pub same : t ≡ s
     pub unread : left' ≡ left
-    pub writes : Writes taken taken' (page_bytes memory_page (Some ending.Memory)) (Some ending.Memory) (Some end)
+    pub writes : WritesMemoryPage taken taken' end
 
 module _ {M C R H K Q A : Type 0} where
   -- the whole of a link, with all that is promised of its requests and their responses
@@ -119,3 +120,8 @@ module _ {M C R H K Q A : Type 0} where
       → SessionModel M C R H K → SessionModel M C R H K → Option (List ℕ) → Option (List ℕ) → Option (List ℕ) → Option (List ℕ) → LinkEnd → Type 0
   Serves step opening least answer asks p s t left left' taken taken' end =
       HasServed step opening least answer asks p s t left left' taken taken' end ⊎ HasNoRoom s t left left' taken taken' end
+
+  -- the same by what queries are answered, and by the functions that say which bytes of the link are left and which it has taken
+  abbrev pub ServesLink : {L : Type 0} → (M → C → (M × (R × K)) ⊎ R) → List M → (Q → ℕ) → (M → Q → A) → (Span → M → M → Q → A) → (List ℕ → List ℕ → List ℕ → Asked C Q → Type 0) → Printing R A
+      → SessionModel M C R H K → SessionModel M C R H K → (L → Option (List ℕ)) → (L → Option (List ℕ)) → L → L → LinkEnd → Type 0
+  ServesLink step opening least at between asks p s t left taken link link' end = Serves step opening least (answering at between) asks p s t (left link) (left link') (taken link) (taken link') end

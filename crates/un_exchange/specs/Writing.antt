@@ -27,6 +27,14 @@ abbrev pub Writes : Option (List ℕ) → Option (List ℕ) → List ℕ → Opt
 Writes taken taken' bytes after result =
     ((result ≡ after) × Appends taken taken' bytes) ⊎ ((result ≡ Some end.WriteFault) × AppendsPrefix taken taken' bytes)
 
+-- the bytes of a page, after which the link ends so
+abbrev pub page_bytes : PageModel → Option LinkEnd → List ℕ
+page_bytes page after = response_bytes page (is_some after)
+
+-- the response that says that there is no memory was written, and then the link ends so; or a write failed
+abbrev pub WritesMemoryPage : Option (List ℕ) → Option (List ℕ) → LinkEnd → Type 0
+WritesMemoryPage taken taken' result = Writes taken taken' (page_bytes memory_page (Some end.Memory)) (Some end.Memory) (Some result)
+
 -- what is to be written: what was printed, with its status; or a page of its own
 abbrev pub outgoing_page : List ℕ → Outgoing → PageModel
 outgoing_page printed (Printed status) = page status printed
@@ -40,10 +48,6 @@ outgoing_end close (Printed status) = end_if close
 outgoing_end close (Page page) = end_if close
 outgoing_end close (Denied d) = Some (end.Denied d)
 outgoing_end close Memory = Some end.Memory
-
--- the bytes of a page, after which the link ends so
-abbrev pub page_bytes : PageModel → Option LinkEnd → List ℕ
-page_bytes page after = response_bytes page (is_some after)
 
 module _ {C R Q A : Type 0} where
   -- what is to be written is the response

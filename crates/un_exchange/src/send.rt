@@ -2,8 +2,9 @@
 ghost use Rattle.std.specs.Prelude.{◌≡◌, ◌⊎◌, ◌≤◌, ◌++◌, Some, OnOk, OnErr, vec_capacity};
 ghost use Rattle.std.specs.Io.KnownBytes.{Appends};
 ghost use Rattle.un_io.specs.Outside.{AppendsPrefix, Rose};
-ghost use Rattle.un_exchange.specs.Pages.{memory_page, page, response_bytes};
-ghost use Rattle.un_exchange.specs.Writing.{Writes, page_bytes, outgoing_page, outgoing_end};
+ghost use Rattle.un_exchange.specs.Pages.{page, response_bytes};
+ghost use Rattle.un_exchange.specs.Causes.{CountsWriteFault};
+ghost use Rattle.un_exchange.specs.Writing.{Writes, WritesMemoryPage, page_bytes, outgoing_page, outgoing_end};
 ghost use Rattle.un_exchange.specs.Exchanges.{end_if};
 
 use crate::end::LinkEnd;
@@ -27,10 +28,8 @@ const MEMORY_RESPONSE: &[u8] =
 
 /// Writes the response that says that there is no memory, after which the link ends. It reads nothing.
 pub fn refuse_link<L: Link>(link: &mut L) -> LinkEnd
-    ensures writes { Writes (L.taken link.old) (L.taken link.new)
-        (page_bytes memory_page (Some LinkEnd.Memory)) (Some LinkEnd.Memory) (Some result) }
-    ensures cause { result ≡ LinkEnd.WriteFault
-        → Rose (L.write_faults link.old) (L.write_faults link.new) }
+    ensures writes { WritesMemoryPage (L.taken link.old) (L.taken link.new) result }
+    ensures cause { CountsWriteFault result (L.write_faults link.old) (L.write_faults link.new) }
     ensures ends { (result ≡ LinkEnd.Memory) ⊎ (result ≡ LinkEnd.WriteFault) }
     ensures counted { L.write_faults link.old ≤ L.write_faults link.new }
     ensures keeps_left { L.left link.new ≡ L.left link.old }

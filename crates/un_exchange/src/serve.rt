@@ -1,8 +1,8 @@
 //! All requests of a link.
 ghost use Rattle.std.specs.Prelude.{◌≡◌, ◌≤◌, [], Some, None, IfOk, vec_capacity};
 ghost use Rattle.un_io.specs.Outside.{Rose};
-ghost use Rattle.un_publish.specs.declared.session.Denied.{Denied};
-ghost use Rattle.un_exchange.specs.Links.{HasEnded, Proceeds, Serves};
+ghost use Rattle.un_exchange.specs.Links.{HasEnded, Proceeds, ServesLink};
+ghost use Rattle.un_exchange.specs.Causes.{CountsWriteFault, CountsReadFault, CountsDenial};
 ghost use Rattle.un_exchange.specs.Writing.{check_end};
 ghost use Rattle.un_exchange.specs.Pages.{check_status};
 ghost use Rattle.un_turns.specs.Served.{answering};
@@ -135,11 +135,9 @@ where
         session.old session.new (L.left link.old) (L.left link.new)
         (L.taken link.old) (L.taken link.new) result }
     ensures writes_counted { L.write_faults link.old ≤ L.write_faults link.new }
-    ensures write_cause { result ≡ LinkEnd.WriteFault
-        → Rose (L.write_faults link.old) (L.write_faults link.new) }
+    ensures write_cause { CountsWriteFault result (L.write_faults link.old) (L.write_faults link.new) }
     ensures reads_counted { L.read_faults link.old ≤ L.read_faults link.new }
-    ensures read_cause { result ≡ LinkEnd.ReadFault
-        → Rose (L.read_faults link.old) (L.read_faults link.new) }
+    ensures read_cause { CountsReadFault result (L.read_faults link.old) (L.read_faults link.new) }
 {
     'exchanging: for _ in rt.forever() {
         if let Some(end) = next_exchange::<R, M, S, J, L>(
@@ -179,15 +177,11 @@ pub fn serve_link<R: Wait + Threads + Sync, M: Machine, S: Service<M>, J: BoardN
 ) -> LinkEnd
 where
     Published<M, J>: Snapshot<State = Published<M, J>>,
-    ensures served { Serves M.step J.opening S.least (answering S.answer S.between) S.asks S.printing
-        session.old session.new (L.left link.old) (L.left link.new)
-        (L.taken link.old) (L.taken link.new) result }
-    ensures write_cause { result ≡ LinkEnd.WriteFault
-        → Rose (L.write_faults link.old) (L.write_faults link.new) }
-    ensures read_cause { result ≡ LinkEnd.ReadFault
-        → Rose (L.read_faults link.old) (L.read_faults link.new) }
-    ensures denied_cause { (d : Denied) → result ≡ LinkEnd.Denied d
-        → Rose session.old.denied session.new.denied }
+    ensures served { ServesLink M.step J.opening S.least S.answer S.between S.asks S.printing
+        session.old session.new L.left L.taken link.old link.new result }
+    ensures write_cause { CountsWriteFault result (L.write_faults link.old) (L.write_faults link.new) }
+    ensures read_cause { CountsReadFault result (L.read_faults link.old) (L.read_faults link.new) }
+    ensures denied_cause { CountsDenial result session.old.denied session.new.denied }
     ensures writes_counted { L.write_faults link.old ≤ L.write_faults link.new }
     ensures reads_counted { L.read_faults link.old ≤ L.read_faults link.new }
 {

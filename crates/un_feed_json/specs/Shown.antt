@@ -1,5 +1,7 @@
 -- The values of pages of changes and of stars. Each is printed as the compact text of its value.
 use Rattle.std.specs.Prelude.{ℕ, ℤ, List, [], ◌∷◌, map, codes, Option, None, Some}
+use Rattle.std.specs.Option.{option_copied}
+use denote.Ref.{Bor}
 use Rattle.serde_json.specs.Data.{Data, null, boolean, string}
 use Rattle.serde_json.specs.Written.{compact_text}
 use Rattle.un_geom.specs.declared.point.Point.{Point}
@@ -14,7 +16,8 @@ use Rattle.un_defs.specs.declared.star.ErrorKind.TheVariants as kind
 use Rattle.un_defs.specs.declared.star.TopoError.{TopoError}
 use Rattle.un_defs.specs.declared.star.Spot.{Spot}
 use Rattle.un_defs.specs.declared.star.Star.{Star}
-use Rattle.un_feed.specs.Differences.{Difference, ChangesShown}
+use Rattle.un_feed.specs.declared.changes.Changes.{Changes}
+use Rattle.un_feed.specs.Differences.{Difference, ChangesShown, changes_shown}
 use Rattle.un_feed_json.specs.Names.{named, kind_name, tier_name}
 use Rattle.un_values.specs.Values.{count, counts, whole, list, tuple, object_of, attribute}
 
@@ -107,6 +110,13 @@ changes_text S T t = compact_text (changes_value S T t)
 
 abbrev pub star_text : Catalog → List Tier → Point → Option Star → ℕ → List ℕ
 star_text S T p star version = compact_text (star_value S T p star version)
+
+-- the same of changes and of a star as they are handed in
+abbrev pub text_of_changes : Catalog → List Tier → Changes → List ℕ
+text_of_changes S T changes = changes_text S T (changes_shown changes)
+
+abbrev pub text_of_star : Catalog → List Tier → Point → Option (Bor Star) → ℕ → List ℕ
+text_of_star S T p star version = star_text S T p (option_copied star) version
 
 abbrev pub followed_text : ℕ → ℕ → List ℕ
 followed_text points version = compact_text (followed_value points version)

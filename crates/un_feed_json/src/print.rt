@@ -5,7 +5,7 @@ ghost use Rattle.json.specs.Token.{end_object, key, string, boolean, number};
 ghost use Rattle.json.specs.Tree.{json_tokens};
 ghost use Rattle.serde_json.specs.Written.{outline};
 ghost use Rattle.un_feed.specs.Differences.{change_shown, changes_shown};
-ghost use Rattle.un_feed_json.specs.Shown.{change, changes_text, changes_value, place, star_or_null, star_text, star_value};
+ghost use Rattle.un_feed_json.specs.Shown.{change, changes_text, changes_value, place, star_or_null, star_text, star_value, text_of_changes, text_of_star};
 ghost use Rattle.un_values.specs.Values.{list};
 
 use crate::change::show_star;
@@ -109,7 +109,7 @@ pub fn print_changes(
     out: &mut Vec<u8>,
 ) -> Result<(), AllocError>
     ensures ok { OnOk result (out.new.items
-        ≡ out.old.items ++ changes_text schema.now tiers.now (changes_shown reply.now)) }
+        ≡ out.old.items ++ text_of_changes schema.now tiers.now reply.now) }
     ensures room { OnOk result (vec_len out.new < vec_capacity out.new) }
     ensures err { OnErr result (out.new.items ≡ out.old.items) }
     ensures capacity { vec_capacity out.old ≤ vec_capacity out.new }
@@ -188,7 +188,7 @@ pub fn print_star(
     out: &mut Vec<u8>,
 ) -> Result<(), AllocError>
     ensures ok { OnOk result (out.new.items
-        ≡ out.old.items ++ star_text schema.now tiers.now at (option_copied star.entry) version) }
+        ≡ out.old.items ++ text_of_star schema.now tiers.now at star.entry version) }
     ensures room { OnOk result (vec_len out.new < vec_capacity out.new) }
     ensures err { OnErr result (out.new.items ≡ out.old.items) }
     ensures capacity { vec_capacity out.old ≤ vec_capacity out.new }

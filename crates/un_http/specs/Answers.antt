@@ -1,6 +1,6 @@
 -- What the next answer of an inbox says of the bytes that it held and of those that were read.
-use Rattle.std.specs.Prelude.{ℕ, Bool, List, Option, ⊤}
-use Rattle.std.specs.Io.KnownBytes.{IsAtEnd}
+use Rattle.std.specs.Prelude.{ℕ, Bool, List, ◌++◌, Option, ⊤}
+use Rattle.std.specs.Io.KnownBytes.{Consumes, IsAtEnd}
 use Rattle.un_http.specs.declared.inbox.Next.{Next}
 use Rattle.un_http.specs.declared.inbox.Next.TheVariants.{Request as Given, Failed, Closed, Cut, ReadFault}
 use Rattle.un_http.specs.Block.{IsBlank}
@@ -18,3 +18,7 @@ Answers bytes inbox left (Failed check) = FailsAt bytes check
 Answers bytes inbox left Closed = IsBlank bytes × IsAtEnd left
 Answers bytes inbox left (Cut count) = IsCut bytes count × IsAtEnd left
 Answers bytes inbox left ReadFault = ⊤
+
+-- bytes of the link were read, and this answers them and those that the inbox held before them
+abbrev pub AnswersNext : Holding → Holding → Option (List ℕ) → Option (List ℕ) → Next → Type 0
+AnswersNext inbox inbox' left left' result = (read : List ℕ) × (Consumes left left' read × Answers (inbox.held ++ read) inbox' left' result)

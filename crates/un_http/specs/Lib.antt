@@ -5,6 +5,7 @@ pub mod Passed
 pub mod Head
 pub mod Headers
 pub mod Kinds
+pub mod Laws
 pub mod Requests
 pub mod Response
 pub mod Routes

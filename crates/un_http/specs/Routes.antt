@@ -5,6 +5,10 @@ use Rattle.un_http.specs.declared.route.Route.{Route}
 use Rattle.un_http.specs.declared.route.Route.TheVariants.{Commands, Queries, Version, Feature, Subnetwork, NotFound, WrongMethod}
 use Rattle.un_http.specs.Head.{is_number, number}
 
+-- the patterns of the routes' paths, in the router's order
+abbrev pub route_patterns : List (List ℕ)
+route_patterns = codes "/commands" ∷ codes "/features/{id}" ∷ codes "/queries" ∷ codes "/subnetworks/{tier}/{subnet}" ∷ codes "/version" ∷ []
+
 -- a letter, a digit, `_`, `.` or `-`
 abbrev pub is_name_byte : ℕ → Bool
 is_name_byte byte =

@@ -1,6 +1,6 @@
 -- What reading the next request finds: a request, which the kept bytes begin with, or an end.
 use Rattle.std.specs.Prelude.{◌≡◌, ◌⊎◌, ℕ, ◌+◌, ◌≤◌, List, ◌++◌, length, take, Option, ⊤}
-use Rattle.std.specs.Io.KnownBytes.{IsAtEnd}
+use Rattle.std.specs.Io.KnownBytes.{Consumes, IsAtEnd}
 use Rattle.un_http.specs.declared.check.Check.{Check}
 use Rattle.un_http.specs.declared.head.Passed.{Passed}
 use Rattle.un_http.specs.declared.take.Taken.{Taken}
@@ -39,3 +39,7 @@ Takes all bytes left (Failed check) = FailsAt all check
 Takes all bytes left Closed = IsBlank all × IsAtEnd left
 Takes all bytes left (Cut count) = IsCut all count × IsAtEnd left
 Takes all bytes left ReadFault = ⊤
+
+-- bytes of the link were read, and this is found in the kept bytes and in those that were read
+abbrev pub TakesNext : List ℕ → List ℕ → Option (List ℕ) → Option (List ℕ) → Taken → Type 0
+TakesNext bytes bytes' left left' result = (read : List ℕ) × (Consumes left left' read × Takes (bytes ++ read) bytes' left' result)

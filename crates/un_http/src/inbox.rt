@@ -2,10 +2,9 @@
 //!
 //! The bytes of one request are contiguous, so its method, path and body are slices of them. The next call moves the
 //! bytes after the request to the start: they are at most the surplus of one read after a head.
-ghost use Rattle.std.specs.Prelude.{◌≡◌, ℕ, ◌≤◌, List, [], ◌++◌, IfOk, length};
-ghost use Rattle.std.specs.Io.KnownBytes.{Consumes};
+ghost use Rattle.std.specs.Prelude.{◌≡◌, ◌≤◌, [], IfOk};
 ghost use Rattle.un_io.specs.Outside.{Rose};
-ghost use Rattle.un_http.specs.Answers.{Answers};
+ghost use Rattle.un_http.specs.Answers.{AnswersNext};
 
 use crate::block::drop_prefix;
 use crate::check::Check;
@@ -124,8 +123,7 @@ impl Inbox {
 /// The next request of a link. It allocates nothing. It may wait for the link, and never returns if a client sends CR
 /// and LF bytes endlessly. After any result other than `Request` it is not called again.
 pub fn next_request<R: Wait, X: Link>(rt: &R, inbox: &mut Inbox, link: &mut X) -> Next
-    ensures answers { (read : List ℕ) × (Consumes (X.left link.old) (X.left link.new) read
-        × Answers (inbox.old.held ++ read) inbox.new (X.left link.new) result) }
+    ensures answers { AnswersNext inbox.old inbox.new (X.left link.old) (X.left link.new) result }
     ensures counted { X.read_faults link.old ≤ X.read_faults link.new }
     ensures cause { result ≡ Next.ReadFault → Rose (X.read_faults link.old) (X.read_faults link.new) }
     ensures keeps_taken { X.taken link.new ≡ X.taken link.old }

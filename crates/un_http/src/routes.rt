@@ -1,10 +1,10 @@
 //! Finding the route of a path.
 //!
 //! The router says which kind of route a path may have; a feature's id and a subnetwork's names are then checked here.
-ghost use Rattle.std.specs.Prelude.{◌≡◌, true, ℕ, List, MatchOption, IfOk, false, [], ◌∷◌, ◌++◌, ◌+◌, ◌<◌, ◌≤◌, ◌==◌, length, take, drop, codes};
+ghost use Rattle.std.specs.Prelude.{◌≡◌, true, ℕ, List, MatchOption, IfOk, false, ◌∷◌, ◌++◌, ◌+◌, ◌<◌, ◌≤◌, ◌==◌, length, take, drop};
 ghost use Rattle.std.specs.List.{list_all, position_or_len};
 ghost use Rattle.un_http.specs.Head.{number};
-ghost use Rattle.un_http.specs.Routes.{IsRoute, Finds, is_name_byte, is_name, is_id, by_get};
+ghost use Rattle.un_http.specs.Routes.{route_patterns, IsRoute, Finds, is_name_byte, is_name, is_id, by_get};
 ghost use Rattle.un_http.specs.Table.{table};
 ghost use Rattle.un_http.specs.Kinds.{kind_at};
 
@@ -57,8 +57,7 @@ fn router(alloc: Global) -> Result<Router<Kind>, InsertError>
 impl Routes {
     /// The five routes.
     pub fn new(alloc: Global) -> Result<Routes, AllocError>
-        ensures { IfOk result (λ routes. routes ≡ codes "/commands" ∷ codes "/features/{id}"
-            ∷ codes "/queries" ∷ codes "/subnetworks/{tier}/{subnet}" ∷ codes "/version" ∷ []) }
+        ensures { IfOk result (λ routes. routes ≡ route_patterns) }
     {
         match router(alloc) {
             Ok(router) => Ok(Routes { router }),

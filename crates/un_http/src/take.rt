@@ -1,10 +1,9 @@
 //! The next request in the bytes of a link: its first byte, its block, its head, its body.
-ghost use Rattle.std.specs.Prelude.{◌≡◌, ℕ, ◌+◌, ◌<◌, ◌≤◌, List, ◌++◌, length, vec_capacity};
-ghost use Rattle.std.specs.Io.KnownBytes.{Consumes};
+ghost use Rattle.std.specs.Prelude.{◌≡◌, ◌+◌, ◌<◌, ◌≤◌, length, vec_capacity};
 ghost use Rattle.un_io.specs.Outside.{Rose};
 ghost use Rattle.un_http.specs.Block.{Begins};
 ghost use Rattle.un_http.specs.Filling.{More};
-ghost use Rattle.un_http.specs.Taking.{TakesBegun, Takes};
+ghost use Rattle.un_http.specs.Taking.{TakesBegun, TakesNext};
 
 use crate::check::Check;
 use crate::fill::{Filled, Found, fill, find_block, skip_blank};
@@ -75,8 +74,7 @@ pub(crate) fn take_request<R: Wait, X: Link>(
     requires piece { 0 < length piece.old }
     requires headers { length headers.old ≡ HEADER_ROOM }
     requires room { MOST_BLOCK + MOST_BODY ≤ vec_capacity bytes.old }
-    ensures takes { (read : List ℕ) × (Consumes (X.left link.old) (X.left link.new) read
-        × Takes (bytes.old.items ++ read) bytes.new.items (X.left link.new) result) }
+    ensures takes { TakesNext bytes.old.items bytes.new.items (X.left link.old) (X.left link.new) result }
     ensures capacity { vec_capacity bytes.old ≤ vec_capacity bytes.new }
     ensures counted { X.read_faults link.old ≤ X.read_faults link.new }
     ensures cause { result ≡ Taken.ReadFault → Rose (X.read_faults link.old) (X.read_faults link.new) }

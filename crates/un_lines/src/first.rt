@@ -1,10 +1,9 @@
 //! The first line alone, for a caller that reads nothing after it.
-ghost use Rattle.std.specs.Prelude.{◌≡◌, ◌≢◌, ℕ, ◌+◌, ◌≤◌, ◌<◌, List, [], ◌++◌, Some, Err, false, true, IfOk, MatchResult, length};
+ghost use Rattle.std.specs.Prelude.{◌≡◌, ◌≢◌, ℕ, ◌+◌, ◌≤◌, ◌<◌, List, [], ◌++◌, Err, IfOk, length};
 ghost use Rattle.un_io.specs.Outside.{Rose};
-ghost use Rattle.un_lines.specs.Held.{Holds};
+ghost use Rattle.un_lines.specs.Buffer.{HoldsLine};
 ghost use Rattle.un_lines.specs.Rules.{kind_of};
-ghost use Rattle.un_lines.specs.Cut.{most_bytes, lines_of};
-ghost use Rattle.un_lines.specs.First.{first_kept, HasRead, IsFirst};
+ghost use Rattle.un_lines.specs.First.{HasRead, ReadsFirst, ReadsBlankLines, ReadsBlankToLimit, FindsFirst};
 ghost use Rattle.un_lines.specs.Passing.{Passed, PassesTo, IsKept, kept_as};
 
 use crate::MOST_BYTES;
@@ -76,7 +75,7 @@ pub enum FirstFault {
 
 // The kind of the line that the buffer holds.
 fn held_kind(buffer: &LineBuffer) -> Kind
-    ensures { (line : List ℕ) → Holds buffer.now.bytes.items buffer.now.over line → result ≡ kind_of line }
+    ensures { (line : List ℕ) → HoldsLine buffer.now line → result ≡ kind_of line }
 {
     if buffer.over {
         Kind::TooLong
@@ -111,16 +110,14 @@ fn read_to_first<S: Source>(
     buffer: &mut LineBuffer,
     piece: &mut [u8],
 ) -> Result<Kind, FirstFault>
-    requires none_held { Holds buffer.old.bytes.items buffer.old.over [] }
+    requires none_held { HoldsLine buffer.old [] }
     requires piece { 0 < length piece.old }
     ensures kept { IfOk result (λ kind. HasRead (S.left source.old) (S.left source.new)
         (λ read. IsKept read (S.left source.new) (kept_as kind buffer.new.bytes.items))) }
     ensures source_fault { result ≡ Err FirstFault.Source
-        → HasRead (S.left source.old) (S.left source.new)
-        (λ read. (length read < most_bytes) × (first_kept (lines_of false read) ≡ FirstLine.Missing)) }
+        → ReadsBlankLines (S.left source.old) (S.left source.new) }
     ensures limit { result ≡ Err FirstFault.Limit
-        → HasRead (S.left source.old) (S.left source.new)
-        (λ read. (length read ≡ most_bytes) × (first_kept (lines_of false read) ≡ FirstLine.Missing)) }
+        → ReadsBlankToLimit (S.left source.old) (S.left source.new) }
     ensures memory { result ≢ Err FirstFault.Memory }
     ensures counted { S.faults source.old ≤ S.faults source.new }
     ensures cause { result ≡ Err FirstFault.Source → Rose (S.faults source.old) (S.faults source.new) }
@@ -157,7 +154,7 @@ fn first_line(buffer: LineBuffer, kind: Kind) -> FirstLine
 
 // The unfinished line, and the piece.
 fn buffers(alloc: Global) -> Result<(LineBuffer, Vec<u8>), AllocError>
-    ensures none_held { IfOk result (λ buffers. Holds buffers.0.bytes.items buffers.0.over []) }
+    ensures none_held { IfOk result (λ buffers. HoldsLine buffers.0 []) }
     ensures piece { IfOk result (λ buffers. 0 < length buffers.1.items) }
 {
     let line = LineBuffer::new(alloc)?;
@@ -169,16 +166,13 @@ fn buffers(alloc: Global) -> Result<(LineBuffer, Vec<u8>), AllocError>
 ///
 /// Reads no further piece once that line has ended. What the last piece holds after the line is dropped.
 pub fn read_first_line<S: Source>(alloc: Global, source: &mut S) -> Result<FirstLine, FirstFault>
-    ensures first { IfOk result (λ first. HasRead (S.left source.old) (S.left source.new)
-        (λ read. IsFirst read (S.left source.new) first)) }
+    ensures first { IfOk result (ReadsFirst (S.left source.old) (S.left source.new)) }
 
     // The source failed, or the limit was reached: all whole lines read are blank.
     ensures source_fault { result ≡ Err FirstFault.Source
-        → HasRead (S.left source.old) (S.left source.new)
-        (λ read. (length read < most_bytes) × (first_kept (lines_of false read) ≡ FirstLine.Missing)) }
+        → ReadsBlankLines (S.left source.old) (S.left source.new) }
     ensures limit { result ≡ Err FirstFault.Limit
-        → HasRead (S.left source.old) (S.left source.new)
-        (λ read. (length read ≡ most_bytes) × (first_kept (lines_of false read) ≡ FirstLine.Missing)) }
+        → ReadsBlankToLimit (S.left source.old) (S.left source.new) }
     ensures memory { result ≡ Err FirstFault.Memory → source.new ≡ source.old }
 
     ensures counted { S.faults source.old ≤ S.faults source.new }
@@ -186,10 +180,7 @@ pub fn read_first_line<S: Source>(alloc: Global, source: &mut S) -> Result<First
     ensures unfailing { result ≢ Err FirstFault.Source → S.faults source.new ≡ S.faults source.old }
 
     // If nothing fails and the input is below the limit, its first line is answered, unless there is no memory.
-    ensures complete { (bytes : List ℕ) → S.left source.old ≡ Some bytes → length bytes < most_bytes
-        → ¬ Rose (S.faults source.old) (S.faults source.new)
-        → MatchResult result (λ first. first ≡ first_kept (lines_of true bytes))
-        (λ fault. fault ≡ FirstFault.Memory) }
+    ensures complete { FindsFirst (S.left source.old) (S.faults source.old) (S.faults source.new) result }
 {
     match buffers(alloc) {
         Ok((mut line, mut piece)) => {

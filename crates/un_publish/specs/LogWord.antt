@@ -1,5 +1,5 @@
 -- The rule between a log and the word that stands for it, and what a step at the word tells.
-use Rattle.std.specs.Prelude.{ℕ, ◌≡◌, ◌==◌, ◌≤◌, ◌<◌, ◌^◌, true, List, [], ◌∷◌, ◌++◌, length, MatchBool}
+use Rattle.std.specs.Prelude.{ℕ, ◌≡◌, ◌⊎◌, ◌==◌, ◌≤◌, ◌<◌, ◌^◌, Bool, true, List, [], ◌∷◌, ◌++◌, length, MatchBool}
 use mathlib.Core.List.{IsPrefix}
 use Rattle.logbook.specs.Pages.{Cell, Step, View, Book, Named}
 
@@ -27,3 +27,7 @@ module _ {E : Type 0} where
   -- as many entries as a log may have, and none was added
   abbrev pub IsFull : List E → List E → Type 0
   IsFull xs ys = (2 ^ 62 ≤ length xs) × (ys ≡ xs)
+
+  -- the entry was added; or the log was longer, and more of it was seen; or it is full
+  abbrev pub AddsEntry : List E → List E → E → Bool → Type 0
+  AddsEntry xs ys entry added = MatchBool added (ys ≡ xs ++ entry ∷ []) (IsLonger xs ys ⊎ IsFull xs ys)

@@ -7,9 +7,9 @@
 //! was seen to one more: if it succeeds, nobody else has added an entry since.
 //!
 //! Copying, comparing and adding take a few instructions, allocate nothing and never wait.
-ghost use Rattle.std.specs.Prelude.{◌≡◌, ◌+◌, ◌==◌, ◌<◌, ◌≤◌, ◌^◌, ◌++◌, ◌∷◌, ◌⊎◌, [], length, MatchBool};
+ghost use Rattle.std.specs.Prelude.{◌≡◌, ◌+◌, ◌==◌, ◌<◌, ◌≤◌, ◌^◌, [], length, MatchBool};
 ghost use mathlib.Core.List.{IsPrefix};
-ghost use Rattle.un_publish.specs.LogWord.{head_of, IsFull, IsLonger};
+ghost use Rattle.un_publish.specs.LogWord.{head_of, AddsEntry, IsLonger};
 
 use logbook::{Gain, Offer, Plain, Play, Rule, Seen, Start, Word};
 use std::marker::{Brand, Model, PhantomData};
@@ -179,8 +179,7 @@ impl<E, J: LogName> Prefix<E, J> {
     /// Adds an entry to the log if this is the whole log and there is room for one more, and says whether it did. If
     /// not, then either the log was longer, and this becomes a longer prefix of it, or the log is full.
     pub fn add(&mut self, word: &LogLength<E, J>, entry: &E) -> bool
-        ensures { MatchBool result (self.new ≡ self.old ++ entry.now ∷ [])
-            (IsLonger self.old self.new ⊎ IsFull self.old self.new) }
+        ensures { AddsEntry self.old self.new entry.now result }
     {
         if self.count >= MOST {
             return false;

@@ -1,5 +1,5 @@
 -- What is due for the lines of a follower.
-use Rattle.std.specs.Prelude.{ℕ, List, length, Option, None, Some, Result, Ok, Err, if◌then◌else◌}
+use Rattle.std.specs.Prelude.{ℕ, List, [], ◌∷◌, ◌++◌, length, Option, None, Some, Result, Ok, Err, if◌then◌else◌}
 use Rattle.un_points.specs.PointMaps.{value_at}
 use Rattle.un_lines.specs.Rules.{Rules}
 use Rattle.un_schema.specs.declared.place.Place.{Place}
@@ -49,6 +49,10 @@ abbrev pub reply_to_line : Following → Result Line ReadFault → List ℕ
 reply_to_line f (Err fault) = print (fault_reply fault)
 reply_to_line f (Ok (page_line page)) = reply_to_page f.copy page
 reply_to_line f (Ok (star_line p)) = star_text f.schema f.tiers p (value_at p f.copy.kept) f.copy.version
+
+-- the bytes of the reply to a line: its text and the line's end
+abbrev pub line_reply : Following → List ℕ → List ℕ
+line_reply f line = reply_to_line f (said f line) ++ 10 ∷ []
 
 -- the copy behind it: a page that fits is taken, and nothing else changes the copy
 abbrev pub state_behind_line : Following → Result Line ReadFault → Following

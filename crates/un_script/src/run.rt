@@ -1,9 +1,7 @@
 //! The commands that end by themselves, from words and bytes to bytes.
-ghost use Rattle.std.specs.Prelude.{◌≡◌, ◌⊎◌, ◌↔◌, ℕ, ◌≤◌, None, [], ◌∷◌, Contains};
-ghost use Rattle.un_words.specs.Words.{IsCommand};
-ghost use Rattle.un_words.specs.declared.command.ProgramCommand.TheVariants.{Make};
+ghost use Rattle.std.specs.Prelude.{◌≡◌, ◌⊎◌, ◌↔◌, ◌≤◌, None, [], ◌∷◌, Contains};
 ghost use Rattle.un_script.specs.Made.{made_line};
-ghost use Rattle.un_script.specs.Runs.{IsScript, IsFollow, IsMake, RunsScript, RunsFollow, RunsMake};
+ghost use Rattle.un_script.specs.Runs.{IsScript, IsFollow, IsMake, RunsScript, RunsMake, RunsScriptOver, RunsFollowOver, RunsMakeOver};
 ghost use Rattle.un_script.specs.History.{Headline};
 
 use crate::follow::run_follow;
@@ -77,19 +75,15 @@ pub fn run_script<S: Source, K: Sink, L>(
     ensures headline { Headline }
 
     // `script`: what each status says of the bytes read and written, and when it comes.
-    ensures script { IsScript words.now
-        → RunsScript (S.left source.old) (S.left source.new) (K.taken sink.old) (K.taken sink.new)
-        (S.faults source.old) (S.faults source.new) (K.faults sink.old) (K.faults sink.new) result }
+    ensures script { IsScript words.now → RunsScriptOver S.left S.faults source.old source.new
+        K.taken K.faults sink.old sink.new result }
 
     // `follow`: the same of its lines.
-    ensures follow { IsFollow words.now
-        → RunsFollow (S.left source.old) (S.left source.new) (K.taken sink.old) (K.taken sink.new)
-        (S.faults source.old) (S.faults source.new) (K.faults sink.old) (K.faults sink.new) result }
+    ensures follow { IsFollow words.now → RunsFollowOver S.left S.faults source.old source.new
+        K.taken K.faults sink.old sink.new result }
 
     // `make`: the same of its line. Nothing is read.
-    ensures make { (seed count : ℕ) → IsCommand words.now (Make seed count)
-        → RunsMake (made_line seed count) (K.taken sink.old) (K.taken sink.new)
-        (K.faults sink.old) (K.faults sink.new) result }
+    ensures make { RunsMakeOver words.now K.taken K.faults sink.old sink.new result }
     ensures unread { IsMake words.now → source.new ≡ source.old }
     ensures unwritten { IsMake words.now → result ≡ 7 → sink.new ≡ sink.old }
 {

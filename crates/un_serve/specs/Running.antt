@@ -1,8 +1,10 @@
 -- What the server's words are, and what its first line has to be.
-use Rattle.std.specs.Prelude.{◌≡◌, ◌⊎◌, ℕ, Bool, true, false, List, Option, Result, Ok, Err, ⊤}
+use Rattle.std.specs.Prelude.{◌≡◌, ◌⊎◌, ℕ, ◌^◌, ◌<◌, Bool, true, false, List, length, Option, Some, Result, Ok, Err, ⊤}
+use Rattle.un_io.specs.Outside.{Rose}
 use Rattle.un_words.specs.Words.{IsCommand}
 use Rattle.un_words.specs.declared.command.ProgramCommand.TheVariants.{Serve}
-use Rattle.un_lines.specs.First.{IsFirst}
+use Rattle.un_lines.specs.Cut.{lines_of}
+use Rattle.un_lines.specs.First.{first_kept, HasRead, IsFirst}
 use Rattle.un_lines.specs.declared.first.FirstLine.{FirstLine}
 use Rattle.un_lines.specs.declared.first.FirstLine.TheVariants.{Line, TooLong, Missing}
 use Rattle.un_lines.specs.declared.first.FirstFault.{FirstFault}
@@ -32,10 +34,25 @@ pub record IsOpened (read : List ℕ) (left : Option (List ℕ)) (is : Bool) : T
   pub is_first : IsFirst read left first
   pub opens : is_schema first ≡ is
 
+-- bytes were read up to a first line that is a schema
+abbrev pub ReadsSchema : Option (List ℕ) → Option (List ℕ) → Type 0
+ReadsSchema left left' = HasRead left left' (λ read. IsOpened read left' true)
+
+-- bytes were read up to a first line that is no schema, or there is none
+abbrev pub ReadsNoSchema : Option (List ℕ) → Option (List ℕ) → Type 0
+ReadsNoSchema left left' = HasRead left left' (λ read. IsOpened read left' false)
+
 -- the status where nothing fails: with a schema the door was closed, without one it is refused, or there was no memory
 abbrev pub EndsWith : Bool → ℕ → Type 0
 EndsWith true status = (status ≡ 0) ⊎ (status ≡ 7)
 EndsWith false status = (status ≡ 6) ⊎ (status ≡ 7)
+
+-- With the words of a server, where the source's bytes are known and below the limit, and neither source nor door fails, the first line
+-- decides the status. The source and the door come with the functions that say which bytes are left, and how many faults were counted.
+abbrev pub EndsByFirstLine : {S D : Type 0} → List (List ℕ) → (S → Option (List ℕ)) → (S → ℕ) → S → S → (D → ℕ) → D → D → ℕ → Type 0
+EndsByFirstLine words left faults source source' door_faults door door' status =
+    (bytes : List ℕ) → IsServe words → left source ≡ Some bytes → length bytes < 2 ^ 32 → ¬ (Rose (faults source) (faults source')) → ¬ (Rose (door_faults door) (door_faults door'))
+    → EndsWith (is_schema (first_kept (lines_of true bytes))) status
 
 -- why no network was opened, where the first line was not read
 abbrev pub open_fault : FirstFault → OpenFault

@@ -104,3 +104,7 @@ pub record HasServedNet (first : List State) (s t : NetSession) (left left' take
 
 abbrev pub ServesNet : List State → NetSession → NetSession → Option (List ℕ) → Option (List ℕ) → Option (List ℕ) → Option (List ℕ) → LinkEnd → Type 0
 ServesNet first s t left left' taken taken' end = HasServedNet first s t left left' taken taken' end ⊎ HasNoRoom s t left left' taken taken' end
+
+-- the same by the functions that say which bytes of the link are left and which it has taken
+abbrev pub ServesNetLink : {L : Type 0} → List State → NetSession → NetSession → (L → Option (List ℕ)) → (L → Option (List ℕ)) → L → L → LinkEnd → Type 0
+ServesNetLink first s t left taken link link' end = ServesNet first s t (left link) (left link') (taken link) (taken link') end

@@ -2,10 +2,9 @@
 ghost use Rattle.std.specs.Prelude.{◌≡◌, ◌≢◌, ◌⊎◌, ◌↔◌, ℕ, ◌^◌, ◌<◌, ◌≤◌, List, Some, [], ◌∷◌, Err, true, false, length, Contains, IfOk, IfSome, MatchOption};
 ghost use Rattle.un_io.specs.Outside.{Rose};
 ghost use Rattle.un_lines.specs.Cut.{lines_of};
-ghost use Rattle.un_lines.specs.First.{first_kept, HasRead};
-ghost use Rattle.un_lines.specs.declared.first.FirstLine.TheVariants.{Missing};
+ghost use Rattle.un_lines.specs.First.{first_kept, ReadsBlankLines, ReadsBlankToLimit};
 ghost use Rattle.un_gate.specs.Gates.{IsSince};
-ghost use Rattle.un_serve.specs.Running.{EndsWith, IsOpened, IsServe, Opens, fault_status, is_schema, open_fault};
+ghost use Rattle.un_serve.specs.Running.{EndsByFirstLine, IsServe, Opens, ReadsNoSchema, ReadsSchema, fault_status, is_schema, open_fault};
 
 use crate::workers::serve_door;
 use core::mem::replace_with;
@@ -87,19 +86,15 @@ fn open_fault(fault: FirstFault) -> OpenFault
 
 // Reads the schema's line, and opens the network.
 fn open_network<S: Source>(alloc: Global, schema: &mut S) -> Result<Net, OpenFault>
-    ensures opened { IfOk result (λ _. HasRead (S.left schema.old) (S.left schema.new)
-        (λ read. IsOpened read (S.left schema.new) true)) }
+    ensures opened { IfOk result (λ _. ReadsSchema (S.left schema.old) (S.left schema.new)) }
     ensures refused { result ≡ Err OpenFault.NoSchema
-        → HasRead (S.left schema.old) (S.left schema.new)
-        (λ read. IsOpened read (S.left schema.new) false) }
+        → ReadsNoSchema (S.left schema.old) (S.left schema.new) }
     ensures source_fault { result ≡ Err OpenFault.Source
-        → HasRead (S.left schema.old) (S.left schema.new)
-        (λ read. (length read < 2 ^ 32) × (first_kept (lines_of false read) ≡ Missing)) }
+        → ReadsBlankLines (S.left schema.old) (S.left schema.new) }
     ensures source_cause { result ≡ Err OpenFault.Source
         → Rose (S.faults schema.old) (S.faults schema.new) }
     ensures limit { result ≡ Err OpenFault.Limit
-        → HasRead (S.left schema.old) (S.left schema.new)
-        (λ read. (length read ≡ 2 ^ 32) × (first_kept (lines_of false read) ≡ Missing)) }
+        → ReadsBlankToLimit (S.left schema.old) (S.left schema.new) }
     ensures complete { (bytes : List ℕ) → S.left schema.old ≡ Some bytes → length bytes < 2 ^ 32
         → ¬ Rose (S.faults schema.old) (S.faults schema.new)
         → Opens (is_schema (first_kept (lines_of true bytes))) result }
@@ -174,35 +169,26 @@ where
 
     // 0: the door was closed, and each link has ended. 5: the door failed. The first line is a schema.
     ensures opened { (result ≡ 0) ⊎ (result ≡ 5)
-        → HasRead (S.left schema.old) (S.left schema.new)
-        (λ read. IsOpened read (S.left schema.new) true) }
+        → ReadsSchema (S.left schema.old) (S.left schema.new) }
     ensures closed { result ≡ 0 → D.closed door.new ≡ true }
     ensures door_cause { result ≡ 5 → Rose (D.faults door.old) (D.faults door.new) }
 
     // 3: the source failed before a first line.
-    ensures source_fault { result ≡ 3
-        → HasRead (S.left schema.old) (S.left schema.new)
-        (λ read. (length read < 2 ^ 32) × (first_kept (lines_of false read) ≡ Missing)) }
+    ensures source_fault { result ≡ 3 → ReadsBlankLines (S.left schema.old) (S.left schema.new) }
     ensures source_cause { result ≡ 3 → Rose (S.faults schema.old) (S.faults schema.new) }
 
     // 6: the first line that isn't blank is no schema, or the input ended without one.
-    ensures refused { result ≡ 6
-        → HasRead (S.left schema.old) (S.left schema.new)
-        (λ read. IsOpened read (S.left schema.new) false) }
+    ensures refused { result ≡ 6 → ReadsNoSchema (S.left schema.old) (S.left schema.new) }
 
     // 8: so many bytes were read before a first line.
-    ensures limit { result ≡ 8
-        → HasRead (S.left schema.old) (S.left schema.new)
-        (λ read. (length read ≡ 2 ^ 32) × (first_kept (lines_of false read) ≡ Missing)) }
+    ensures limit { result ≡ 8 → ReadsBlankToLimit (S.left schema.old) (S.left schema.new) }
 
     // Without a network the door is not asked.
     ensures unasked { (result ≡ 3) ⊎ ((result ≡ 6) ⊎ (result ≡ 8)) → door.new ≡ door.old }
 
     // Where nothing fails and fewer bytes come than the limit, the first line decides, or there was no memory.
-    ensures complete { (bytes : List ℕ) → IsServe words.now → S.left schema.old ≡ Some bytes
-        → length bytes < 2 ^ 32 → ¬ Rose (S.faults schema.old) (S.faults schema.new)
-        → ¬ Rose (D.faults door.old) (D.faults door.new)
-        → EndsWith (is_schema (first_kept (lines_of true bytes))) result }
+    ensures complete { EndsByFirstLine words.now
+        S.left S.faults schema.old schema.new D.faults door.old door.new result }
 {
     let Some(workers) = workers_in(words) else {
         return 2;

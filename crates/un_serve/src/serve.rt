@@ -1,12 +1,11 @@
 //! All requests of a link of the server.
-ghost use Rattle.std.specs.Prelude.{◌≡◌, ◌≤◌};
-ghost use Rattle.un_io.specs.Outside.{Rose};
-ghost use Rattle.un_publish.specs.declared.session.Denied.{Denied};
+ghost use Rattle.std.specs.Prelude.{◌≤◌};
 ghost use Rattle.un_core.specs.Commands.{step};
-ghost use Rattle.un_exchange.specs.Links.{Serves};
+ghost use Rattle.un_exchange.specs.Links.{ServesLink};
+ghost use Rattle.un_exchange.specs.Causes.{CountsWriteFault, CountsReadFault, CountsDenial};
 ghost use Rattle.un_serve.specs.Asking.{Asks};
 ghost use Rattle.un_serve.specs.Printing.{printing};
-ghost use Rattle.un_serve.specs.Serving.{ServesNet, least_of, answers_of};
+ghost use Rattle.un_serve.specs.Serving.{ServesNetLink, least_of, answer_of, between_of};
 
 use crate::service::NetService;
 use std::alloc::Global;
@@ -32,15 +31,11 @@ fn serve_by<R: Wait + Threads + Sync, J: BoardName<Net>, L: Link>(
 ) -> LinkEnd
 where
     Published<Net, J>: Snapshot<State = Published<Net, J>>,
-    ensures served { Serves step J.opening least_of answers_of Asks printing
-        session.old session.new (L.left link.old) (L.left link.new)
-        (L.taken link.old) (L.taken link.new) result }
-    ensures write_cause { result ≡ LinkEnd.WriteFault
-        → Rose (L.write_faults link.old) (L.write_faults link.new) }
-    ensures read_cause { result ≡ LinkEnd.ReadFault
-        → Rose (L.read_faults link.old) (L.read_faults link.new) }
-    ensures denied_cause { (d : Denied) → result ≡ LinkEnd.Denied d
-        → Rose session.old.denied session.new.denied }
+    ensures served { ServesLink step J.opening least_of answer_of between_of Asks printing
+        session.old session.new L.left L.taken link.old link.new result }
+    ensures write_cause { CountsWriteFault result (L.write_faults link.old) (L.write_faults link.new) }
+    ensures read_cause { CountsReadFault result (L.read_faults link.old) (L.read_faults link.new) }
+    ensures denied_cause { CountsDenial result session.old.denied session.new.denied }
     ensures writes_counted { L.write_faults link.old ≤ L.write_faults link.new }
     ensures reads_counted { L.read_faults link.old ≤ L.read_faults link.new }
 {
@@ -59,14 +54,11 @@ pub fn serve_link<R: Wait + Threads + Sync, J: BoardName<Net>, L: Link>(
 ) -> LinkEnd
 where
     Published<Net, J>: Snapshot<State = Published<Net, J>>,
-    ensures served { ServesNet J.opening session.old session.new (L.left link.old) (L.left link.new)
-        (L.taken link.old) (L.taken link.new) result }
-    ensures write_cause { result ≡ LinkEnd.WriteFault
-        → Rose (L.write_faults link.old) (L.write_faults link.new) }
-    ensures read_cause { result ≡ LinkEnd.ReadFault
-        → Rose (L.read_faults link.old) (L.read_faults link.new) }
-    ensures denied_cause { (d : Denied) → result ≡ LinkEnd.Denied d
-        → Rose session.old.denied session.new.denied }
+    ensures served { ServesNetLink J.opening session.old session.new
+        L.left L.taken link.old link.new result }
+    ensures write_cause { CountsWriteFault result (L.write_faults link.old) (L.write_faults link.new) }
+    ensures read_cause { CountsReadFault result (L.read_faults link.old) (L.read_faults link.new) }
+    ensures denied_cause { CountsDenial result session.old.denied session.new.denied }
     ensures writes_counted { L.write_faults link.old ≤ L.write_faults link.new }
     ensures reads_counted { L.read_faults link.old ≤ L.read_faults link.new }
 {

@@ -81,6 +81,10 @@ module _ {M C R H K Q A : Type 0} where
     pub is : IsTurn step opening least s turn t
     pub responds : IsResponseOf answer request turn response
 
+  -- the same by what queries are answered at one state, and about two states
+  abbrev pub ServesRequest : (M → C → (M × (R × K)) ⊎ R) → List M → (Q → ℕ) → (M → Q → A) → (Span → M → M → Q → A) → SessionModel M C R H K → Request C Q → Response R A → SessionModel M C R H K → Type 0
+  ServesRequest step opening least at between s request response t = IsServed step opening least (answering at between) s request response t
+
 module _ {M C R K Q A : Type 0} where
   -- a reply is that of a step of the request's command at some state, and only a request that asks nothing has no reply
   abbrev pub IsReplyOf : (M → C → (M × (R × K)) ⊎ R) → Request C Q → Response R A → Type 0

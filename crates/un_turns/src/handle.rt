@@ -5,7 +5,7 @@ ghost use mathlib.Core.List.{IsPrefix};
 ghost use Rattle.un_desk.specs.Desks.{IsSubmitted, IsDeskFault, counted};
 ghost use Rattle.un_turns.specs.Turns.{IsAnswered, IsUnanswered, view_fault};
 ghost use Rattle.un_turns.specs.Prepared.{IsPreparedAfter};
-ghost use Rattle.un_turns.specs.Served.{answering, fault_response, IsAnswerOr, IsServed, past_response, receipt_response, view_response};
+ghost use Rattle.un_turns.specs.Served.{fault_response, IsAnswerOr, ServesRequest, past_response, receipt_response, view_response};
 ghost use Rattle.un_turns.specs.declared.request.Response.TheVariants.{BetweenAnswer, Memory};
 ghost use Rattle.std.specs.Arc.{arc_value};
 ghost use Rattle.un_asof.specs.Pasts.{KeepLaw, pair_of};
@@ -140,7 +140,7 @@ fn decide_prepared<R: Wait + Threads + Sync, M: Machine, A: Answers<M>, J: Board
 ) -> Response<M::Reply, A::Answer>
 where
     Published<M, J>: Snapshot<State = Published<M, J>>,
-    ensures { IsServed M.step J.opening A.least (answering A.answer A.between)
+    ensures { ServesRequest M.step J.opening A.least A.answer A.between
         session.old (Request.Command cmd) result session.new }
 {
     let view = match session.read() {
@@ -166,7 +166,7 @@ fn decide<R: Wait + Threads + Sync, M: Machine, A: Answers<M>, J: BoardName<M>>(
 ) -> Response<M::Reply, A::Answer>
 where
     Published<M, J>: Snapshot<State = Published<M, J>>,
-    ensures { IsServed M.step J.opening A.least (answering A.answer A.between)
+    ensures { ServesRequest M.step J.opening A.least A.answer A.between
         session.old (Request.Command cmd) result session.new }
 {
     if A::may_prepare(&cmd) {
@@ -188,7 +188,7 @@ fn answer<R: Wait, M: Machine, A: Answers<M>, J: BoardName<M>>(
 ) -> Response<M::Reply, A::Answer>
 where
     Published<M, J>: Snapshot<State = Published<M, J>>,
-    ensures { IsServed M.step J.opening A.least (answering A.answer A.between)
+    ensures { ServesRequest M.step J.opening A.least A.answer A.between
         session.old (Request.Query query) result session.new }
 {
     let view = match view_at_least(rt, desk, session, A::least(&query)) {
@@ -234,7 +234,7 @@ fn answer_past<R: Wait, M: Machine, A: Answers<M>, J: BoardName<M>>(
 where
     Published<M, J>: Snapshot<State = Published<M, J>>,
     requires { IsKeptFor M.step J.opening kept.old session.old.seen }
-    ensures served { IsServed M.step J.opening A.least (answering A.answer A.between)
+    ensures served { ServesRequest M.step J.opening A.least A.answer A.between
         session.old (Request.Past at query) result session.new }
     ensures kept { IsKeptFor M.step J.opening kept.new session.new.seen }
 {
@@ -308,7 +308,7 @@ fn answer_between<R: Wait, M: Machine, A: Answers<M>, J: BoardName<M>>(
 where
     Published<M, J>: Snapshot<State = Published<M, J>>,
     requires { IsKeptFor M.step J.opening kept.old session.old.seen }
-    ensures served { IsServed M.step J.opening A.least (answering A.answer A.between)
+    ensures served { ServesRequest M.step J.opening A.least A.answer A.between
         session.old (Request.Between since upto query) result session.new }
     ensures kept { IsKeptFor M.step J.opening kept.new session.new.seen }
 {
@@ -371,7 +371,7 @@ pub fn handle_request<R: Wait + Threads + Sync, M: Machine, A: Answers<M>, J: Bo
 where
     Published<M, J>: Snapshot<State = Published<M, J>>,
     requires { IsKeptFor M.step J.opening kept.old session.old.seen }
-    ensures served { IsServed M.step J.opening A.least (answering A.answer A.between)
+    ensures served { ServesRequest M.step J.opening A.least A.answer A.between
         session.old request result session.new }
     ensures kept { IsKeptFor M.step J.opening kept.new session.new.seen }
 {

@@ -1,6 +1,6 @@
 //! Commands.
-ghost use Rattle.std.specs.Prelude.{◌≡◌, ℕ, List, Some, MatchOption, [], ◌∷◌, codes};
-ghost use Rattle.un_words.specs.Words.{IsCommand};
+ghost use Rattle.std.specs.Prelude.{◌≡◌, ℕ, List, Some, [], ◌∷◌, codes};
+ghost use Rattle.un_words.specs.Words.{IsCommand, ReadsCommand};
 ghost use Rattle.un_words.specs.declared.command.ProgramCommand.{ProgramCommand};
 
 use crate::number::number_within;
@@ -27,9 +27,7 @@ pub enum ProgramCommand {
 
 // The command with one word.
 fn read_name(name: &Word) -> Option<ProgramCommand>
-    ensures read { MatchOption result
-        ((command : ProgramCommand) → ¬ IsCommand (name.now ∷ []) command)
-        (IsCommand (name.now ∷ [])) }
+    ensures read { ReadsCommand (name.now ∷ []) result }
 {
     match name.as_str() {
         "script" => Some(ProgramCommand::Script),
@@ -40,9 +38,7 @@ fn read_name(name: &Word) -> Option<ProgramCommand>
 
 // The command `make` with these numbers.
 fn read_make(seed: &Word, count: &Word) -> Option<ProgramCommand>
-    ensures read { MatchOption result
-        ((command : ProgramCommand) → ¬ IsCommand (codes "make" ∷ seed.now ∷ count.now ∷ []) command)
-        (IsCommand (codes "make" ∷ seed.now ∷ count.now ∷ [])) }
+    ensures read { ReadsCommand (codes "make" ∷ seed.now ∷ count.now ∷ []) result }
 {
     let seed = number_within(seed.as_str(), 0, u32::MAX)?;
     let count = number_within(count.as_str(), 1, MOST_JUNCTIONS)?;
@@ -51,9 +47,7 @@ fn read_make(seed: &Word, count: &Word) -> Option<ProgramCommand>
 
 // The command `serve` with these numbers.
 fn read_serve(port: &Word, workers: &Word) -> Option<ProgramCommand>
-    ensures read { MatchOption result
-        ((command : ProgramCommand) → ¬ IsCommand (codes "serve" ∷ port.now ∷ workers.now ∷ []) command)
-        (IsCommand (codes "serve" ∷ port.now ∷ workers.now ∷ [])) }
+    ensures read { ReadsCommand (codes "serve" ∷ port.now ∷ workers.now ∷ []) result }
 {
     let port = number_within(port.as_str(), 1, u16::MAX as u32)?;
     let workers = number_within(workers.as_str(), 1, MOST_WORKERS)?;
@@ -65,9 +59,7 @@ fn read_serve(port: &Word, workers: &Word) -> Option<ProgramCommand>
 
 // The command with three words.
 fn read_numbers(name: &Word, first: &Word, second: &Word) -> Option<ProgramCommand>
-    ensures read { MatchOption result
-        ((command : ProgramCommand) → ¬ IsCommand (name.now ∷ first.now ∷ second.now ∷ []) command)
-        (IsCommand (name.now ∷ first.now ∷ second.now ∷ [])) }
+    ensures read { ReadsCommand (name.now ∷ first.now ∷ second.now ∷ []) result }
 {
     match name.as_str() {
         "make" => read_make(first, second),
@@ -80,8 +72,7 @@ fn read_numbers(name: &Word, first: &Word, second: &Word) -> Option<ProgramComma
 ///
 /// Numbers are decimal, without a sign and without leading zeros.
 pub fn read_words(words: &[Word]) -> Option<ProgramCommand>
-    ensures read { MatchOption result ((command : ProgramCommand) → ¬ IsCommand words.now command)
-        (IsCommand words.now) }
+    ensures read { ReadsCommand words.now result }
     ensures only { (command : ProgramCommand) → IsCommand words.now command → result ≡ Some command }
 {
     match words {

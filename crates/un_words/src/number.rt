@@ -1,5 +1,6 @@
 //! Numbers as words: decimal, without a sign and without leading zeros.
-ghost use Rattle.std.specs.Prelude.{◌≡◌, ◌≢◌, ◌≤◌, ◌<◌, ◌^◌, ◌⊎◌, ◌↔◌, ℕ, IsTrue, true, get_or, length, MatchOption, decimal};
+ghost use Rattle.std.specs.Prelude.{◌≡◌, ◌≢◌, ◌<◌, ◌^◌, ◌⊎◌, ◌↔◌, ℕ, IsTrue, true, get_or, length, MatchOption, decimal};
+ghost use Rattle.un_words.specs.Numbers.{ReadsNumber};
 
 // Whether the text begins with a plus, or with a zero that isn't all of it.
 fn has_prefix(text: &[u8]) -> bool
@@ -21,9 +22,7 @@ fn read_number(text: &str) -> Option<u32>
 
 /// The number that the text writes, if it is in this range.
 pub fn number_within(text: &str, least: u32, most: u32) -> Option<u32>
-    ensures { MatchOption result
-        ((number : ℕ) → least ≤ number → number ≤ most → text.now ≢ decimal number)
-        (λ number. (text.now ≡ decimal number) × (least ≤ number) × (number ≤ most)) }
+    ensures { ReadsNumber text.now least most result }
 {
     let number = read_number(text)?;
     if number < least || number > most {

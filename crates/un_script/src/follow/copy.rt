@@ -9,7 +9,7 @@ ghost use Rattle.un_replies.specs.Replies.{print};
 ghost use Rattle.un_feed.specs.Differences.{changes_shown};
 ghost use Rattle.un_feed.specs.Follows.{nothing_copied, fits, taken, after_page};
 ghost use Rattle.un_feed_json.specs.Shown.{followed_text, star_text};
-ghost use Rattle.un_script.specs.Following.{followed, wrong_page, reply_to_page, said, reply_to_line, state_behind_line};
+ghost use Rattle.un_script.specs.Following.{followed, wrong_page, reply_to_page, said, line_reply, state_behind_line};
 
 use crate::opening::{print_line, refuse, refused};
 use itoa::Buffer;
@@ -153,8 +153,7 @@ impl Following {
         out: &mut Vec<u8>,
     ) -> Result<(), AllocError>
         requires { vec_len out.old + REPLY_ROOM ≤ vec_capacity out.old }
-        ensures reply { OnOk result (out.new.items
-            ≡ out.old.items ++ (reply_to_line self.old (said self.old line.now) ++ 10 ∷ [])) }
+        ensures reply { OnOk result (out.new.items ≡ out.old.items ++ line_reply self.old line.now) }
         ensures state { OnOk result (self.new ≡ state_behind_line self.old (said self.old line.now)) }
         ensures err { OnErr result ((self.new ≡ self.old) × (out.new.items ≡ out.old.items)) }
         ensures capacity { vec_capacity out.old ≤ vec_capacity out.new }

@@ -8,4 +8,4 @@ returns c =
     let is : line_at c.in_ok-net.net c.in_ok-net.errors ≡ made_line c.args.seed c.args.count =
     line_made c.args.seed c.args.count c.in_ok-empty.empty c.in_ok-net.net c.as_slice.result.now c.in_ok-net.errors
     c.in_ok-empty.ensures (c.as_slice.ensures.value ∙ c.in_ok-commands.ensures) c.in_ok-net.ensures.state c.in_ok-net.ensures.errors in
-    subst (λ (text : List ℕ). IfOk c.line_at.result (λ line. line.items ≡ text)) is c.line_at.ensures
+    subst (λ (text : List ℕ). IfOk c.line_at-line.result (λ line. line.items ≡ text)) is c.line_at-line.ensures
