@@ -11,6 +11,7 @@ mod network;
 mod traces;
 
 use std::alloc::{AllocError, Global};
+use std::mem::forget;
 
 /// The line of a seed and a count, with its line end. Want of memory is the one error.
 pub(crate) fn make_line(alloc: Global, seed: u32, count: u32) -> Result<Vec<u8>, AllocError>
@@ -21,5 +22,9 @@ pub(crate) fn make_line(alloc: Global, seed: u32, count: u32) -> Result<Vec<u8>,
     let commands = un_gen::commands(alloc, seed, count)?;
     let empty = network::open(alloc)?;
     let (net, errors) = network::apply_all(alloc, empty, commands.as_slice())?;
-    line::line_at(alloc, &net, errors)
+    let line = line::line_at(alloc, &net, errors);
+    // The program ends after this line, and the system takes its memory back faster than it can be freed block by block.
+    forget(commands);
+    forget(net);
+    line
 }

@@ -31,7 +31,9 @@ fn script_lines<S: Source, K: Sink, L>(
     // For the proof alone.
     headline();
     let mut script = Script::new(steps);
-    run_status(alloc, &mut script, source, sink)
+    let status = run_status(alloc, &mut script, source, sink);
+    script.forget();
+    status
 }
 
 // Writes the line of a generated network, and answers the status.

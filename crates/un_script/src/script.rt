@@ -23,6 +23,7 @@ use crate::opening::{
 use crate::recoverable::Recoverable;
 use std::alloc::{AllocError, Global};
 use std::marker::PhantomData;
+use std::mem::forget;
 use un_ask::{Command, Query, Refusal, Reply, Request};
 use un_core::Net;
 use un_core::laws::steps_reply;
@@ -49,6 +50,12 @@ impl<'a, L> Script<'a, L> {
         ensures { result.net ≡ None }
     {
         Script { net: None, steps }
+    }
+
+    /// Leaves the network's memory to the system, which takes it back where the program ends, faster than it can be freed block by block.
+    pub(crate) fn forget(self) {
+        let Script { net, steps: _ } = self;
+        forget(net);
     }
 }
 
