@@ -1,4 +1,4 @@
-use crate::{Attrs, Cats};
+use crate::{Attrs, AttrsFault, Cats};
 use std::test::Fail;
 
 #[test]
@@ -8,7 +8,7 @@ fn pairs_rise(rt: HostRuntime) {
         (Some(2), -1_000_000_000_000),
         (Some(31), 0),
     ];
-    match Attrs::new(&given) {
+    match Attrs::new(rt.alloc(), &given) {
         Ok(attrs) => {
             assert_eq!(rt; attrs.pairs().len(), 3);
             assert_eq!(rt; attrs.get(7), Some(1_000_000_000_000));
@@ -20,9 +20,10 @@ fn pairs_rise(rt: HostRuntime) {
 
 #[test]
 fn the_first_bad_pair_is_named(rt: HostRuntime) {
-    match Attrs::new(&[(Some(0), 1), (None, 1), (Some(1), 1_000_000_000_001)]) {
+    let given = [(Some(0), 1), (None, 1), (Some(1), 1_000_000_000_001)];
+    match Attrs::new(rt.alloc(), &given) {
         Ok(_) => panic!(rt; "an unknown name"),
-        Err(bad) => assert_eq!(rt; bad.place, 1),
+        Err(fault) => assert_eq!(rt; fault, AttrsFault::BadAttribute { place: 1 }),
     }
 }
 

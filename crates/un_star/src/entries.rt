@@ -140,7 +140,7 @@ fn spot<R: Rows>(
         kind: row.kind,
         class: row.class,
         cats: rows.schema().cats(row.kind),
-        attrs: row.attrs.copy(),
+        attrs: row.attrs.share()?,
         ties,
         controller,
         container: container(contained.as_slice(), row.id),
