@@ -96,8 +96,3 @@ left_indexed test areas gone old new l s e kept is =
     each (λ a. IsIndexed old l a × AllByRecursion (λ g. a.0 ≢ g.0) (filter test areas)) (IsIndexed new l) (filter (λ a. not (test a)) areas)
     (λ a h. record { low = h.0.low; all = λ p c. kept (cell_at (level_of a.1) p) a.0 (subst (AllByRecursion (λ g. a.0 ≢ g.0)) (sym e) h.1) (h.0.all p c) })
     (pairs (IsIndexed old l) (λ a. AllByRecursion (λ g. a.0 ≢ g.0) (filter test areas)) (filter (λ a. not (test a)) areas) (others_left test (IsIndexed old l) areas is) (parted test areas s))
-
--- with the same levels, or with no area left
-pub same_levels : (cells : CellMap) (l m : ℕ) (areas : List (ℕ × Rectangle)) → (0 < length areas → m ≡ l) → AllByRecursion (IsIndexed cells l) areas → AllByRecursion (IsIndexed cells m) areas
-same_levels cells l m [] h is = tt
-same_levels cells l m (a ∷ areas) h is = subst (λ n. AllByRecursion (IsIndexed cells n) (a ∷ areas)) (sym (h (omega arith))) is

@@ -1,9 +1,9 @@
 // The list of areas.
-ghost use Rattle.std.specs.Prelude.{◌≡◌, ◌↔◌, ◌<◌, ◌≤◌, ◌+◌, ◌^◌, ◌++◌, true, not, map, filter, find, length, IfOk, IsErrOf};
+ghost use Rattle.std.specs.Prelude.{◌≡◌, ◌↔◌, ◌<◌, ◌≤◌, ◌+◌, ◌^◌, ◌++◌, true, map, filter, find, length, IfOk, IsErrOf};
 ghost use Rattle.std.specs.Option.{option_map};
 ghost use Rattle.std.specs.List.{enumerate_from, AllByRecursion};
 ghost use Rattle.un_geom.specs.Places.{meets, covers};
-ghost use Rattle.un_dirty.specs.Areas.{no_areas, added, cleared, least_number, has_area, areas_gone, without_all as all_removed, IsNumbered};
+ghost use Rattle.un_dirty.specs.Areas.{no_areas, added, cleared, emptied, least_number, has_area, areas_gone, without_all as all_removed, IsNumbered};
 
 use crate::cells::{Cells, least_over, with_areas, without_areas};
 use std::alloc::{AllocError, Global};
@@ -158,17 +158,28 @@ impl Dirty {
     pub fn clear_meeting(&self, alloc: Global, extent: Rect) -> Result<Dirty, Memory>
         ensures { IfOk result (λ d. d ≡ cleared self.now extent) }
     {
-        // For the proof alone.
-        let _len = self.areas.len();
-        let (areas, gone) = parted(&self.areas, alloc, &extent)?;
-        let cells = without_areas(&self.cells, alloc, gone.as_slice())?;
-        let levels = levels_left(&areas, self.levels);
+        let met = areas_meeting(&self.areas, alloc, &extent)?;
+        if met.len() as u64 == self.areas.len() {
+            return Ok(self.emptied());
+        }
         Ok(Dirty {
-            areas,
+            areas: without_all(&self.areas, alloc, &met)?,
             next: self.next,
-            cells,
-            levels,
+            cells: without_areas(&self.cells, alloc, &met)?,
+            levels: self.levels,
         })
+    }
+
+    // The list without its areas, numbered on, which takes no memory.
+    fn emptied(&self) -> Dirty
+        ensures { result ≡ emptied self.now }
+    {
+        Dirty {
+            areas: Paged::new(),
+            next: self.next,
+            cells: Paged::new(),
+            levels: 0,
+        }
     }
 
     /// The areas that a later list no longer has, with their numbers, rising. Areas compare by their numbers.
@@ -246,30 +257,6 @@ fn areas_gone(
         }
     }
     Ok(gone)
-}
-
-// How many levels may be in use: none once no area is left.
-fn levels_left(areas: &Paged<u64, Rect>, levels: u32) -> u32
-    ensures few { result ≤ levels }
-    ensures same { 0 < length areas.now → result ≡ levels }
-{
-    if areas.len() == 0 { 0 } else { levels }
-}
-
-// The areas that do not meet the rectangle, and those that do.
-fn parted(
-    areas: &Paged<u64, Rect>,
-    alloc: Global,
-    extent: &Rect,
-) -> Result<(Paged<u64, Rect>, Vec<(u64, Rect)>), Memory>
-    ensures apart { IfOk result (λ r. r.0 ≡ filter (λ a. not (meets a.1 extent.now)) areas.now) }
-    ensures met { IfOk result (λ r. r.1.items ≡ filter (λ a. meets a.1 extent.now) areas.now) }
-{
-    // For the proof alone.
-    let _len = areas.len();
-    let met = areas_meeting(areas, alloc, extent)?;
-    let apart = without_all(areas, alloc, met.as_slice())?;
-    Ok((apart, met))
 }
 
 // The areas without those with these numbers.
