@@ -6,6 +6,7 @@ pub mod Places
 pub mod Paths
 pub mod Apart
 pub mod Standers
+pub mod Standing
 pub mod Coins
 pub mod LinksHere
 pub mod EntriesHere

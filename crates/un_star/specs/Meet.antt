@@ -1,6 +1,7 @@
--- What meets at a point, by the ports there: the devices and junctions, and the vertices of lines that may connect.
-use Rattle.std.specs.Prelude.{◌≡◌, ℕ, nat_le, ◌==◌, Bool, false, not, ◌&&◌, ◌||◌, if◌then◌else◌, List, [], ◌∷◌, filter_map, Option, Some, None, option_and_then}
+-- What meets at a point, by the ports there and their rows: the devices and junctions, and the vertices of lines that may connect.
+use Rattle.std.specs.Prelude.{◌≡◌, ℕ, nat_le, ◌==◌, Bool, false, not, ◌&&◌, ◌||◌, if◌then◌else◌, List, [], ◌∷◌, map, filter_map, flat_map, option_to_list, Option, Some, None, option_and_then}
 use Rattle.std.specs.List.{list_any}
+use Rattle.std.specs.Option.{option_map}
 use Rattle.un_geom.specs.declared.point.Point.{Point}
 use Rattle.un_schema.specs.declared.rule.Rule.{Rule}
 use Rattle.un_schema.specs.Catalog.{Catalog}
@@ -11,18 +12,42 @@ use Rattle.un_defs.specs.Orders.{same_port}
 use Rattle.un_defs.specs.Features.{Features, row, is_joint, is_line}
 use Rattle.un_defs.specs.Ports.{ports}
 use Rattle.un_defs.specs.Links.{Vertex, end_number, is_end, may_connect, only}
+use Rattle.un_star.specs.declared.meet.Standing.{Standing}
 use Rattle.un_star.specs.declared.meet.Joint.{Joint}
 use Rattle.un_star.specs.declared.meet.End.{End}
 use Rattle.un_star.specs.declared.meet.Group.{Group}
 use Rattle.un_star.specs.declared.meet.Meeting.{Meeting}
 
+-- a port that stands at the point, with its row
+abbrev pub pair_of : Standing → Port × Row
+pair_of s = (s.port, s.row.now)
+
+abbrev pub pairs_of : List Standing → List (Port × Row)
+pairs_of standing = map pair_of standing
+
+-- the port with its row, if there is one
+abbrev pub stander : Features → Port → Option (Port × Row)
+stander F q = option_map (λ r. (q, r)) (row F q.feature)
+
+-- the ports at a point, with their rows
+abbrev pub standers : Features → Point → List (Port × Row)
+standers F p = flat_map (λ q. option_to_list (stander F q)) (ports F p)
+
 -- what the rules ask of a device or junction
 abbrev pub joint_of : Row → Joint
 joint_of r = record { id = r.id; kind = r.kind; terminals = r.terminals }
 
+-- the device or junction of a row, if the port is its first terminal
+abbrev pub joint_of_port : Port → Row → Option Joint
+joint_of_port q r = if is_joint r.class && (q.number == 1) then Some (joint_of r) else None
+
 -- the device or junction of which the port is the first terminal
 abbrev pub joint_here : Features → Port → Option Joint
-joint_here F q = option_and_then (λ r. if is_joint r.class && (q.number == 1) then Some (joint_of r) else None) (row F q.feature)
+joint_here F q = option_and_then (joint_of_port q) (row F q.feature)
+
+-- the devices and junctions among the ports
+abbrev pub joints_among : List Standing → List Joint
+joints_among standing = filter_map (λ s. joint_of_port s.port s.row.now) standing
 
 -- the devices and junctions at a point
 abbrev pub joints_here : Features → Point → List Joint
@@ -40,10 +65,13 @@ end_of v = record {
 abbrev pub vertex_at : Point → Row → ℕ → Vertex
 vertex_at p r i = record { line = r; index = i; at = p }
 
+-- the vertex that the port of a row is, if it is one of a line and may connect
+abbrev pub end_of_port : Catalog → Point → Port → Row → Option End
+end_of_port S p q r = if is_line r.class && may_connect S (vertex_at p r q.number) then Some (end_of (vertex_at p r q.number)) else None
+
 -- the vertex that the port is, if it is one of a line and may connect
 abbrev pub end_here : Catalog → Features → Point → Port → Option End
-end_here S F p q =
-    option_and_then (λ r. if is_line r.class && may_connect S (vertex_at p r q.number) then Some (end_of (vertex_at p r q.number)) else None) (row F q.feature)
+end_here S F p q = option_and_then (end_of_port S p q) (row F q.feature)
 
 -- the vertices of lines at a point that may connect
 abbrev pub ends_here : Catalog → Features → Point → List End
@@ -88,6 +116,7 @@ TakesIn rules j f old new =
 
 -- what meets at the point
 pub record IsMeeting (S : Catalog) (F : Features) (m : Meeting) : Type 0 where
+  pub all_standing : pairs_of m.standing.items ≡ standers F m.at
   pub all_joints : m.joints.items ≡ joints_here F m.at
   pub all_ends : m.ends.items ≡ ends_here S F m.at
   pub grouped : (j : Joint) → only m.joints.items ≡ Some j → AreGroups S.rules j m.ends.items m.groups.items

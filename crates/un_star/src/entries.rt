@@ -1,7 +1,7 @@
 //! The entries of the ports at a point.
 
-ghost use Rattle.std.specs.Prelude.{◌≡◌, ◌==◌, ◌++◌, Some, IfOk, OnOk, map, filter, find, option_to_list};
-ghost use Rattle.std.specs.Option.{option_map, option_copied};
+ghost use Rattle.std.specs.Prelude.{◌≡◌, ◌==◌, Some, IfOk, map, filter, find};
+ghost use Rattle.std.specs.Option.{option_copied};
 ghost use Rattle.un_defs.specs.Features.{row as row_of};
 ghost use Rattle.un_defs.specs.Star.{controller_at, is_containment, is_attachment};
 ghost use Rattle.un_star.specs.Meet.{IsMeeting};
@@ -149,25 +149,6 @@ fn spot<R: Rows>(
     })
 }
 
-/// Adds the entry of a port.
-fn add_spot<R: Rows>(
-    spots: &mut Vec<Spot>,
-    alloc: Global,
-    rows: &R,
-    meeting: &Meeting,
-    port: Port,
-) -> Result<(), AllocError>
-    requires { IsMeeting (R.catalog rows.now) (R.features rows.now) meeting.now }
-    ensures { OnOk result (spots.new.items ≡ spots.old.items ++ option_to_list
-        (option_map (spot_here (R.catalog rows.now) (R.features rows.now) meeting.now.at port) (row_of (R.features rows.now) port.feature))) }
-{
-    if let Some(row) = rows.row(port.feature) {
-        let spot = spot(alloc, rows, meeting, port, row)?;
-        spots.push(spot)?;
-    }
-    Ok(())
-}
-
 /// The entries of the ports at a point, in their order.
 pub(crate) fn spots_here<R: Rows>(
     alloc: Global,
@@ -178,10 +159,10 @@ pub(crate) fn spots_here<R: Rows>(
     ensures { IfOk result (λ spots. spots.items
         ≡ spots_here (R.catalog rows.now) (R.features rows.now) meeting.now.at) }
 {
-    let ports = rows.ports_at(meeting.at);
-    let mut spots = Vec::with_capacity(alloc, ports.len())?;
-    for port in ports {
-        add_spot(&mut spots, alloc, rows, meeting, *port)?;
+    let mut spots = Vec::with_capacity(alloc, meeting.standing.len())?;
+    for one in &meeting.standing {
+        let spot = spot(alloc, rows, meeting, one.port, one.row)?;
+        spots.push(spot)?;
     }
     Ok(spots)
 }

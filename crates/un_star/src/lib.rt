@@ -8,10 +8,11 @@
 //!
 //! # How it is found
 //!
-//! First it takes down what meets at the point ([`meet`]): the devices and junctions, and the vertices of lines that may connect there (the
-//! ends). Where there is exactly one device or junction, the ends whose terminal it has are put into groups, one for each kind of line with
-//! its terminal; a group remembers its first end, and whether it has more. So whether a rule joins an end with another one through the device
-//! or junction is asked once for each group, and not once for each other end: a group of which the end itself is the only one doesn't count.
+//! First it takes down the ports at the point, each with its row, and what meets there ([`meet`]): the devices and junctions, and the vertices
+//! of lines that may connect there (the ends). What follows reads these rows, and does not look them up again. Where there is exactly one
+//! device or junction, the ends whose terminal it has are put into groups, one for each kind of line with its terminal; a group remembers its
+//! first end, and whether it has more. So whether a rule joins an end with another one through the device or junction is asked once for each
+//! group, and not once for each other end: a group of which the end itself is the only one doesn't count.
 //!
 //! Then each port has its links ([`links`]): at most two segments of its line; the paths from its terminal to each other one; its link with
 //! what meets there, which is one for a vertex and one for each end that joins at the terminal for a device or junction; and those of the
@@ -28,9 +29,10 @@
 //!
 //! # What it costs
 //!
-//! With n line ends and one device or junction at the point the number of steps grows as n log n: each end is looked up, grouped and tested
-//! once for each terminal, and the links of a terminal are sorted. The number of groups is at most that of the kinds of lines there with
-//! their terminals, and each end is compared with each group at most once for each terminal. No list of all features is gone through.
+//! With n line ends and one device or junction at the point the number of steps grows as n log n: the row of each port is looked up once, each
+//! end is grouped once and tested once for each terminal, and the links of a terminal are sorted. The number of groups is at most that of the
+//! kinds of lines there with their terminals, and each end is compared with each group at most once for each terminal. Each association of a
+//! row there is looked at with the rows at its ends. No list of all features is gone through.
 #![tactic(auto)]
 
 mod entries;

@@ -308,21 +308,23 @@ fn add_device_paths<R: Rows>(
     Ok(())
 }
 
-/// Adds the link of a vertex with the only device or junction at its point.
+/// Adds the link of a vertex of the row with the only device or junction at its point.
 fn add_own_coin<R: Rows>(
     ties: &mut TieList,
     rows: &R,
     meeting: &Meeting,
     node: Node,
+    row: &Row,
     joint: &Joint,
 ) -> Result<(), AllocError>
-    requires { AreGroups
+    requires row { row_of (R.features rows.now) node.port.feature ≡ Some row.now }
+    requires groups { AreGroups
         (R.catalog rows.now).rules joint.now meeting.now.ends.items meeting.now.groups.items }
     ensures { OnOk result (ties.new.items ≡ ties.old.items
         ++ flat_map (coin_ties_by (R.catalog rows.now).rules node joint.now meeting.now.ends.items)
         (option_to_list (end_here (R.catalog rows.now) (R.features rows.now) node.at node.port))) }
 {
-    if let Some(end) = end_here(rows, node.at, node.port) {
+    if let Some(end) = end_here(rows, node.at, node.port, row) {
         add(ties, coin(rows.schema(), meeting, node, joint, &end))?;
     }
     Ok(())
@@ -334,9 +336,11 @@ fn add_coins<R: Rows>(
     rows: &R,
     meeting: &Meeting,
     node: Node,
+    row: &Row,
 ) -> Result<(), AllocError>
     requires meeting { IsMeeting (R.catalog rows.now) (R.features rows.now) meeting.now }
     requires here { meeting.now.at ≡ node.at }
+    requires row { row_of (R.features rows.now) node.port.feature ≡ Some row.now }
     ensures { OnOk result (ties.new.items
         ≡ ties.old.items ++ coin_ties (R.catalog rows.now) (R.features rows.now) node) }
 {
@@ -346,7 +350,7 @@ fn add_coins<R: Rows>(
     if node.port.feature == joint.id {
         add_all_coins(ties, rows.schema(), meeting, node, &joint)?;
     } else {
-        add_own_coin(ties, rows, meeting, node, &joint)?;
+        add_own_coin(ties, rows, meeting, node, row, &joint)?;
     }
     Ok(())
 }
@@ -382,7 +386,7 @@ pub(crate) fn ties_of<R: Rows>(
     let mut ties = TieList::with_capacity(alloc, room_for_ties(meeting, node, row))?;
     add_segments(&mut ties, node, row)?;
     add_paths(&mut ties, rows, node, row)?;
-    add_coins(&mut ties, rows, meeting, node)?;
+    add_coins(&mut ties, rows, meeting, node, row)?;
     add_associations(&mut ties, alloc, rows, node)?;
     let ties = rising_ties(alloc, ties)?;
     Ok(Ties::new(ties))

@@ -1,17 +1,25 @@
 //! What meets at a point.
 
-ghost use Rattle.std.specs.Prelude.{◌≡◌, ◌<◌, List, IfOk, OnOk, length};
+ghost use Rattle.std.specs.Prelude.{◌≡◌, ◌<◌, ◌++◌, List, Some, IfOk, OnOk, length, option_to_list};
 ghost use Rattle.un_schema.specs.declared.rule.Rule.{Rule};
 ghost use Rattle.std.specs.List.{list_any};
 ghost use Rattle.un_schema.specs.Catalog.{any_vertex};
+ghost use Rattle.un_defs.specs.Features.{row as row_of};
 ghost use Rattle.un_defs.specs.Links.{only};
-ghost use Rattle.un_star.specs.Meet.{joint_here, joints_here, end_here, ends_here, chosen_by, has_chosen_by, joins_by, noted, passes_group, TakesIn, AreGroups, IsMeeting, with_port};
+ghost use Rattle.un_star.specs.Meet.{pairs_of, stander, standers, joint_of_port, joints_among, end_here, ends_here, chosen_by, has_chosen_by, joins_by, noted, passes_group, TakesIn, AreGroups, IsMeeting, with_port};
 
 use std::alloc::{AllocError, Global};
 use un_defs::ports::is_joint;
-use un_defs::{Port, Rows};
+use un_defs::{Port, Row, Rows};
 use un_geom::Point;
 use un_schema::{Class, Policy, Schema};
+
+/// A port that stands at the point, with its row.
+#[derive(Clone, Copy)]
+pub(crate) struct Standing<'a> {
+    pub(crate) port: Port,
+    pub(crate) row: &'a Row,
+}
 
 /// What the rules ask of a device or junction.
 #[derive(Clone, Copy)]
@@ -45,18 +53,50 @@ pub(crate) struct Group {
 
 /// What meets at a point.
 #[derive(Drop)]
-pub(crate) struct Meeting {
+pub(crate) struct Meeting<'a> {
     pub(crate) at: Point,
+    /// The ports at the point, in their order.
+    pub(crate) standing: Vec<Standing<'a>>,
     pub(crate) joints: Vec<Joint>,
     pub(crate) ends: Vec<End>,
     pub(crate) groups: Vec<Group>,
 }
 
-/// The device or junction of which the port is the first terminal.
-fn joint_here<R: Rows>(rows: &R, port: Port) -> Option<Joint>
-    ensures { result ≡ joint_here (R.features rows.now) port }
+/// Adds a port with its row, if there is one.
+fn add_standing<'a, R: Rows>(
+    standing: &mut Vec<Standing<'a>>,
+    rows: &'a R,
+    port: Port,
+) -> Result<(), AllocError>
+    ensures { OnOk result (pairs_of standing.new.items
+        ≡ pairs_of standing.old.items ++ option_to_list (stander (R.features rows.now) port)) }
 {
-    let row = rows.row(port.feature)?;
+    if let Some(row) = rows.row(port.feature) {
+        standing.push(Standing { port, row })?;
+    }
+    Ok(())
+}
+
+/// The ports at a point with their rows, each row looked up once.
+fn standing_at<'a, R: Rows>(
+    alloc: Global,
+    rows: &'a R,
+    p: Point,
+) -> Result<Vec<Standing<'a>>, AllocError>
+    ensures { IfOk result (λ standing. pairs_of standing.items ≡ standers (R.features rows.now) p) }
+{
+    let ports = rows.ports_at(p);
+    let mut standing = Vec::with_capacity(alloc, ports.len())?;
+    for port in ports {
+        add_standing(&mut standing, rows, *port)?;
+    }
+    Ok(standing)
+}
+
+/// The device or junction of the row, if the port is its first terminal.
+fn joint_here(port: Port, row: &Row) -> Option<Joint>
+    ensures { result ≡ joint_of_port port row.now }
+{
     if is_joint(row.class) && port.number == 1 {
         return Some(Joint {
             id: row.id,
@@ -67,12 +107,12 @@ fn joint_here<R: Rows>(rows: &R, port: Port) -> Option<Joint>
     None
 }
 
-fn joints_here<R: Rows>(alloc: Global, rows: &R, p: Point) -> Result<Vec<Joint>, AllocError>
-    ensures { IfOk result (λ joints. joints.items ≡ joints_here (R.features rows.now) p) }
+fn joints_here(alloc: Global, standing: &[Standing]) -> Result<Vec<Joint>, AllocError>
+    ensures { IfOk result (λ joints. joints.items ≡ joints_among standing.now) }
 {
-    rows.ports_at(p)
+    standing
         .iter()
-        .filter_map(|port| joint_here(rows, *port))
+        .filter_map(|one| joint_here(one.port, one.row))
         .collect(alloc)
 }
 
@@ -84,11 +124,11 @@ fn any_vertex(schema: &Schema, kind: u16) -> bool
     schema.kind_at(kind).policy == Policy::AnyVertex
 }
 
-/// The vertex that the port is, if it is one of a line and may connect.
-pub(crate) fn end_here<R: Rows>(rows: &R, p: Point, port: Port) -> Option<End>
+/// The vertex that the port of a row is, if it is one of a line and may connect.
+pub(crate) fn end_here<R: Rows>(rows: &R, p: Point, port: Port, row: &Row) -> Option<End>
+    requires { row_of (R.features rows.now) port.feature ≡ Some row.now }
     ensures { result ≡ end_here (R.catalog rows.now) (R.features rows.now) p port }
 {
-    let row = rows.row(port.feature)?;
     if row.class != Class::Line {
         return None;
     }
@@ -115,13 +155,29 @@ pub(crate) fn end_here<R: Rows>(rows: &R, p: Point, port: Port) -> Option<End>
     })
 }
 
-fn ends_here<R: Rows>(alloc: Global, rows: &R, p: Point) -> Result<Vec<End>, AllocError>
+fn add_end(ends: &mut Vec<End>, end: Option<End>) -> Result<(), AllocError>
+    ensures { OnOk result (ends.new.items ≡ ends.old.items ++ option_to_list end) }
+{
+    if let Some(end) = end {
+        ends.push(end)?;
+    }
+    Ok(())
+}
+
+fn ends_here<R: Rows>(
+    alloc: Global,
+    rows: &R,
+    p: Point,
+    standing: &[Standing],
+) -> Result<Vec<End>, AllocError>
+    requires { pairs_of standing.now ≡ standers (R.features rows.now) p }
     ensures { IfOk result (λ ends. ends.items ≡ ends_here (R.catalog rows.now) (R.features rows.now) p) }
 {
-    rows.ports_at(p)
-        .iter()
-        .filter_map(|port| end_here(rows, p, *port))
-        .collect(alloc)
+    let mut ends = Vec::new(alloc);
+    for one in standing {
+        add_end(&mut ends, end_here(rows, p, one.port, one.row))?;
+    }
+    Ok(ends)
 }
 
 /// The terminal that an end gives, or where it is 0 the only one.
@@ -209,18 +265,24 @@ fn groups(alloc: Global, joint: &Joint, ends: &[End]) -> Result<Vec<Group>, Allo
 }
 
 /// What meets at a point.
-pub(crate) fn meet<R: Rows>(alloc: Global, rows: &R, p: Point) -> Result<Meeting, AllocError>
+pub(crate) fn meet<'a, R: Rows>(
+    alloc: Global,
+    rows: &'a R,
+    p: Point,
+) -> Result<Meeting<'a>, AllocError>
     ensures at { IfOk result (λ meeting. meeting.at ≡ p) }
     ensures meeting { IfOk result (IsMeeting (R.catalog rows.now) (R.features rows.now)) }
 {
-    let joints = joints_here(alloc, rows, p)?;
-    let ends = ends_here(alloc, rows, p)?;
+    let standing = standing_at(alloc, rows, p)?;
+    let joints = joints_here(alloc, standing.as_slice())?;
+    let ends = ends_here(alloc, rows, p, standing.as_slice())?;
     let groups = match only(joints.as_slice()) {
         Some(joint) => groups(alloc, &joint, ends.as_slice())?,
         None => Vec::new(alloc),
     };
     Ok(Meeting {
         at: p,
+        standing,
         joints,
         ends,
         groups,

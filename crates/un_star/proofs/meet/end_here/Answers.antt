@@ -6,5 +6,5 @@ use Rattle.un_star.proofs.meet.end_here.Goals as goal
 pub any_vertex-requires : goal.any_vertex-requires
 any_vertex-requires g c =
     let now = c.args.rows.now in
-    subst (λ (S : Catalog). c.in_ok-row.row.now.kind < length S.kinds) (sym c.schema.ensures)
-    (kind_lives (g.R.Rows.catalog now) (g.R.Rows.features now) (g.met.R.Rows.sound now) c.args.port.feature c.in_ok-row.row.now (sym c.in_ok-row.ensures))
+    subst (λ (S : Catalog). c.args.row.now.kind < length S.kinds) (sym c.schema.ensures)
+    (kind_lives (g.R.Rows.catalog now) (g.R.Rows.features now) (g.met.R.Rows.sound now) c.args.port.feature c.args.row.now c.requires)
