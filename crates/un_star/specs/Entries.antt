@@ -16,13 +16,17 @@ use Rattle.un_defs.specs.Permit.{permitted}
 use Rattle.un_defs.specs.Star.{controller_at, is_containment, is_attachment}
 use Rattle.un_star.specs.Links.{node_ties}
 
+-- the permitted ones of a sort
+abbrev pub permitted_among : Features → (AssocKind → Bool) → List Assoc → List Assoc
+permitted_among F is_sort assocs = filter (λ a. is_sort a.sort && permitted F a) assocs
+
 -- the permitted associations of a sort, of which the row is an end
 abbrev pub permitted_at : Features → (AssocKind → Bool) → ℕ → List Assoc
-permitted_at F is_sort id = filter (λ a. is_sort a.sort && permitted F a) (associations_of F id)
+permitted_at F is_sort id = permitted_among F is_sort (associations_of F id)
 
--- the permitted associations by which the row is attached to a structure
-abbrev pub attached_at : Features → ℕ → List Assoc
-attached_at F id = filter (λ a. is_attachment a.sort && permitted F a) (filter (λ a. a.to.feature == id) (associations_of F id))
+-- the permitted ones by which the row is attached to a structure
+abbrev pub attached_among : Features → List Assoc → ℕ → List Assoc
+attached_among F assocs id = filter (λ a. is_attachment a.sort && permitted F a) (filter (λ a. a.to.feature == id) assocs)
 
 -- the container that the first association tells of which the row is the content, 0 where there is none
 abbrev pub container_among : List Assoc → ℕ → ℕ

@@ -5,7 +5,7 @@ ghost use Rattle.std.specs.Option.{option_copied};
 ghost use Rattle.un_defs.specs.Features.{row as row_of};
 ghost use Rattle.un_defs.specs.Star.{controller_at, is_containment, is_attachment};
 ghost use Rattle.un_star.specs.Meet.{IsMeeting};
-ghost use Rattle.un_star.specs.Entries.{permitted_at, attached_at, container_among, contents_among, structures_among, spot_here, spots_here};
+ghost use Rattle.un_star.specs.Entries.{permitted_among, attached_among, container_among, contents_among, structures_among, spot_here, spots_here};
 
 use crate::links::ties_of;
 use crate::meet::Meeting;
@@ -14,24 +14,34 @@ use std::alloc::{AllocError, Global};
 use un_defs::order::rising;
 use un_defs::{Assoc, AssocKind, Controller, Ids, Node, Port, Row, Rows, Spot};
 
-/// The permitted associations by which the row contains or is contained.
-fn containments<R: Rows>(alloc: Global, rows: &R, id: u64) -> Result<Vec<Assoc>, AllocError>
-    ensures { IfOk result (λ found. found.items ≡ permitted_at (R.features rows.now) is_containment id) }
+/// Of a row's associations the permitted ones by which it contains or is contained.
+fn containments<R: Rows>(
+    alloc: Global,
+    rows: &R,
+    assocs: &[Assoc],
+) -> Result<Vec<Assoc>, AllocError>
+    ensures { IfOk result (λ found. found.items
+        ≡ permitted_among (R.features rows.now) is_containment assocs.now) }
 {
-    let all = rows.assocs_of(alloc, id)?;
-    all.iter()
+    assocs
+        .iter()
         .copied()
         .filter(|assoc| assoc.sort == AssocKind::Containment && permitted(rows, assoc))
         .collect(alloc)
 }
 
-/// The permitted associations by which the row is attached to a structure. What is attached to the row itself, which may be much, is passed over
-/// before the rules are asked.
-fn attachments<R: Rows>(alloc: Global, rows: &R, id: u64) -> Result<Vec<Assoc>, AllocError>
-    ensures { IfOk result (λ found. found.items ≡ attached_at (R.features rows.now) id) }
+/// Of a row's associations the permitted ones by which it is attached to a structure. What is attached to the row itself, which may be much,
+/// is passed over before the rules are asked.
+fn attachments<R: Rows>(
+    alloc: Global,
+    rows: &R,
+    assocs: &[Assoc],
+    id: u64,
+) -> Result<Vec<Assoc>, AllocError>
+    ensures { IfOk result (λ found. found.items ≡ attached_among (R.features rows.now) assocs.now id) }
 {
-    let all = rows.assocs_of(alloc, id)?;
-    all.iter()
+    assocs
+        .iter()
         .copied()
         .filter(|assoc| assoc.to.feature == id)
         .filter(|assoc| assoc.sort == AssocKind::Attachment && permitted(rows, assoc))
@@ -82,11 +92,16 @@ fn structure_ids(alloc: Global, found: &[Assoc]) -> Result<Vec<u64>, AllocError>
 }
 
 /// The ids of the structures to which the row is attached, rising.
-fn structures<R: Rows>(alloc: Global, rows: &R, id: u64) -> Result<Ids, AllocError>
+fn structures<R: Rows>(
+    alloc: Global,
+    rows: &R,
+    assocs: &[Assoc],
+    id: u64,
+) -> Result<Ids, AllocError>
     ensures { IfOk result (λ ids. ids
-        ≡ structures_among (permitted_at (R.features rows.now) is_attachment id) id) }
+        ≡ structures_among (permitted_among (R.features rows.now) is_attachment assocs.now) id) }
 {
-    let found = attachments(alloc, rows, id)?;
+    let found = attachments(alloc, rows, assocs, id)?;
     let ids = structure_ids(alloc, found.as_slice())?;
     let ids = rising(alloc, ids.as_slice())?;
     Ok(Ids::new(ids))
@@ -130,11 +145,12 @@ fn spot<R: Rows>(
         port,
         at: meeting.at,
     };
-    let ties = ties_of(alloc, rows, meeting, node, row)?;
+    let assocs = rows.assocs_of(alloc, row.id)?;
+    let ties = ties_of(alloc, rows, meeting, node, row, assocs.as_slice())?;
     let controller = controller(alloc, rows, port)?;
-    let contained = containments(alloc, rows, row.id)?;
+    let contained = containments(alloc, rows, assocs.as_slice())?;
     let contents = contents(alloc, contained.as_slice(), row.id)?;
-    let structures = structures(alloc, rows, row.id)?;
+    let structures = structures(alloc, rows, assocs.as_slice(), row.id)?;
     Ok(Spot {
         port,
         kind: row.kind,

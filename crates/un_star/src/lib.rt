@@ -9,14 +9,15 @@
 //! # How it is found
 //!
 //! First it takes down the ports at the point, each with its row, and what meets there ([`meet`]): the devices and junctions, and the vertices
-//! of lines that may connect there (the ends). What follows reads these rows, and does not look them up again. Where there is exactly one
-//! device or junction, the ends whose terminal it has are put into groups, one for each kind of line with its terminal; a group remembers its
-//! first end, and whether it has more. So whether a rule joins an end with another one through the device or junction is asked once for each
-//! group, and not once for each other end: a group of which the end itself is the only one doesn't count.
+//! of lines that may connect there (the ends). What is found for a port from its row is read from the row taken down here. Where there is
+//! exactly one device or junction, the ends whose terminal it has are put into groups, one for each kind of line with its terminal; a group
+//! remembers its first end, and whether it has more. So whether a rule joins an end with another one through the device or junction is asked
+//! once for each group, and not once for each other end: a group of which the end itself is the only one doesn't count.
 //!
 //! Then each port has its links ([`links`]): at most two segments of its line; the paths from its terminal to each other one; its link with
 //! what meets there, which is one for a vertex and one for each end that joins at the terminal for a device or junction; and those of the
-//! permitted associations of its row. They are put in the order of their names. The rest of the entry is looked up ([`entries`]).
+//! permitted associations of its row. They are put in the order of their names. The rest of the entry comes from the
+//! row, its associations and the controller on the port ([`entries`]).
 //!
 //! The errors ([`errors`]) are those of what meets at the point, and those of the associations of the rows there that are not permitted, at
 //! whichever of their ends stands there. They are put in order, and each stands once.
@@ -31,8 +32,9 @@
 //!
 //! With n line ends and one device or junction at the point the number of steps grows as n log n: the row of each port is looked up once, each
 //! end is grouped once and tested once for each terminal, and the links of a terminal are sorted. The number of groups is at most that of the
-//! kinds of lines there with their terminals, and each end is compared with each group at most once for each terminal. Each association of a
-//! row there is looked at with the rows at its ends. No list of all features is gone through.
+//! kinds of lines there with their terminals, and each end is compared with each group at most once for each terminal. The
+//! associations of a port's row are looked up twice, for the entry and for the errors, and each of them is tested with the rows at its ends,
+//! which are looked up for that. No list of all features is gone through.
 #![tactic(auto)]
 
 mod entries;

@@ -2,7 +2,7 @@
 
 ghost use Rattle.std.specs.Prelude.{◌≡◌, ◌<◌, ◌++◌, Some, IfOk, OnOk, IsTrue, length, flat_map, option_to_list};
 ghost use Rattle.un_defs.specs.Orders.{rising, tie_cmp};
-ghost use Rattle.un_defs.specs.Features.{row as row_of, is_line};
+ghost use Rattle.un_defs.specs.Features.{row as row_of, is_line, associations_of};
 ghost use Rattle.un_defs.specs.Links.{ties_by, link_of, segment, is_device, association_link, node_at};
 ghost use Rattle.un_star.specs.Meet.{AreGroups, IsMeeting, end_here};
 ghost use Rattle.un_star.specs.Links.{segment_before, segment_ties, path_link_by, path_between_by, path_ties_by, path_ties, coin_ties_by, coin_ties, association_ties, node_ties};
@@ -254,17 +254,17 @@ fn add_all_coins(
     Ok(())
 }
 
-/// Adds the links by associations.
+/// Adds the links by the associations of the node's row.
 fn add_associations<R: Rows>(
     ties: &mut TieList,
-    alloc: Global,
     rows: &R,
     node: Node,
+    assocs: &[Assoc],
 ) -> Result<(), AllocError>
+    requires { assocs.now ≡ associations_of (R.features rows.now) node.port.feature }
     ensures { OnOk result (ties.new.items ≡ ties.old.items ++ association_ties (R.features rows.now) node) }
 {
-    let assocs = rows.assocs_of(alloc, node.port.feature)?;
-    for assoc in &assocs {
+    for assoc in assocs {
         add(ties, association(rows, node, assoc))?;
     }
     Ok(())
@@ -369,17 +369,19 @@ fn room_for_ties(meeting: &Meeting, node: Node, row: &Row) -> usize {
         .saturating_sub(1)
 }
 
-/// The links of a node of a row, in the order of their names.
+/// The links of a node of a row with its associations, in the order of their names.
 pub(crate) fn ties_of<R: Rows>(
     alloc: Global,
     rows: &R,
     meeting: &Meeting,
     node: Node,
     row: &Row,
+    assocs: &[Assoc],
 ) -> Result<Ties, AllocError>
     requires meeting { IsMeeting (R.catalog rows.now) (R.features rows.now) meeting.now }
     requires here { meeting.now.at ≡ node.at }
     requires row { row_of (R.features rows.now) node.port.feature ≡ Some row.now }
+    requires assocs { assocs.now ≡ associations_of (R.features rows.now) node.port.feature }
     ensures { IfOk result (λ ties. ties
         ≡ rising tie_cmp (node_ties (R.catalog rows.now) (R.features rows.now) node row.now)) }
 {
@@ -387,7 +389,7 @@ pub(crate) fn ties_of<R: Rows>(
     add_segments(&mut ties, node, row)?;
     add_paths(&mut ties, rows, node, row)?;
     add_coins(&mut ties, rows, meeting, node, row)?;
-    add_associations(&mut ties, alloc, rows, node)?;
+    add_associations(&mut ties, rows, node, assocs)?;
     let ties = rising_ties(alloc, ties)?;
     Ok(Ties::new(ties))
 }

@@ -12,8 +12,8 @@ use un_geom::Point;
 
 /// The star at a point: the entry of each port that stands there, and the errors there.
 ///
-/// It looks up the row of each of these ports once, its associations with the rows at their ends, and the controllers. The only error is
-/// want of memory.
+/// It looks up the row of each of these ports once, the associations of these rows with the rows at their ends, and the controllers. The
+/// only error is want of memory.
 pub fn build<R: Rows>(alloc: Global, rows: &R, p: Point) -> Result<Star, AllocError>
     ensures { IfOk result (λ s. s ≡ star (R.catalog rows.now) (R.features rows.now) p) }
 {

@@ -5,4 +5,4 @@ use Rattle.un_star.proofs.links.add_associations.Given as goal
 -- the links by the associations so far are added
 abbrev pub invariant-loop-assoc : goal.invariant-loop-assoc
 invariant-loop-assoc g l =
-    l.ties.items ≡ l.fn.ties.items ++ flat_map (λ a. flat_map (ties_by l.node) (association_link (g.R.Rows.features l.rows) a)) (take l.assoc-index l.assoc-items)
+    l.ties.items ≡ l.fn.ties.items ++ flat_map (λ a. flat_map (ties_by l.node) (association_link (g.R.Rows.features l.rows) a)) (take l.assoc-index l.assocs)
