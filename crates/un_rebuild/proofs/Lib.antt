@@ -1,3 +1,4 @@
 pub mod Pointed
+mod Thinned
 pub mod Replaced
 mod Covered

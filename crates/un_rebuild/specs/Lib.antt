@@ -1,3 +1,4 @@
 pub mod Rebuilding
+pub mod Gathered
 pub mod Preparing
 pub mod Renewed

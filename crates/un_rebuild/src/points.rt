@@ -5,6 +5,7 @@ ghost use Rattle.std.specs.BTreeSet.{insert_key};
 ghost use Rattle.un_geom.specs.Places.{point_cmp};
 ghost use Rattle.un_rebuild.specs.Rebuilding.{ArePoints};
 
+use crate::gathered::Gathered;
 use std::alloc::{AllocError, Global};
 use std::collections::BTreeSet;
 use un_facts::Facts;
@@ -33,11 +34,10 @@ pub fn points_under(
 {
     // For the proof alone.
     let _setup = facts.setup();
-    let mut set = BTreeSet::new(alloc);
+    let mut gathered = Gathered::new(alloc);
     for (_, area) in areas {
-        add_all(&mut set, &facts.points(alloc, *area)?)?;
-        add_all(&mut set, &kept.points(alloc, *area)?)?;
+        gathered.add(&facts.points(alloc, *area)?)?;
+        gathered.add(&kept.points(alloc, *area)?)?;
     }
-    let all: Vec<Point> = set.into_iter().collect(alloc)?;
-    Ok(all)
+    Ok(gathered.into_points())
 }

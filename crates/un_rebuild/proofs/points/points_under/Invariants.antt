@@ -2,6 +2,6 @@ use Rattle.std.proofs.Common.{take}
 use Rattle.un_rebuild.proofs.Pointed.{Gathers}
 use Rattle.un_rebuild.proofs.points.points_under.Given as goal
 
--- the set has the points of the areas so far
+-- the points of the areas so far are gathered
 abbrev pub invariant-loop-area : goal.invariant-loop-area
-invariant-loop-area l = Gathers l.facts.features l.kept (take l.area-index l.areas) l.set.keys
+invariant-loop-area l = Gathers l.facts.features l.kept (take l.area-index l.areas) l.gathered
