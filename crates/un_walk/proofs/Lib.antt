@@ -1,7 +1,9 @@
 pub mod Once
 pub mod Growing
+pub mod Marking
 pub mod LinkTests
 pub mod Walked
 pub mod DirtMet
 pub mod Spreading
 pub mod Entered
+pub mod FoundOver

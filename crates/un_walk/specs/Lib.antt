@@ -4,5 +4,6 @@ pub mod Entries
 pub mod Growth
 pub mod Seen
 pub mod Site
+pub mod Found
 pub mod Ticks
 pub mod Spread

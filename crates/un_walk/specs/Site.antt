@@ -1,11 +1,10 @@
 -- What a ground has at a point.
-use Rattle.std.specs.Prelude.{◌≡◌, length, unwrap_or, All, IfSome}
+use Rattle.std.specs.Prelude.{◌≡◌, unwrap_or}
 use Rattle.std.specs.Option.{option_copied}
 use Rattle.un_defs.specs.declared.star.Star.{Star}
 use Rattle.un_defs.specs.Star.{empty_star}
 use Rattle.un_defs.specs.Ground.{Ground, least_area_at}
 use Rattle.un_walk.specs.declared.site.Site.{Site}
-use Rattle.un_walk.specs.declared.site.Sites.{Sites}
 
 -- the star, which is empty where the ground has none
 abbrev pub star_of : Site → Star
@@ -15,7 +14,3 @@ star_of s = unwrap_or (option_copied s.star) empty_star
 pub record IsSite (G : Ground) (s : Site) : Type 0 where
   pub area : s.area ≡ least_area_at G s.at
   pub star : star_of s ≡ G.stars s.at
-
--- there are 256 places, and each site that is remembered is one of the ground
-abbrev pub AreSites : Ground → Sites → Type 0
-AreSites G s = (length s.places.items ≡ 256) × All (λ place. IfSome place (IsSite G)) s.places.items

@@ -11,14 +11,18 @@
 //!
 //! # How it is found
 //!
-//! [`walk::reach_seen`] keeps the nodes found so far as an indexed set ([`found::Found`]), which has each once and in the order of finding:
-//! first the starts, then each further node as it is found. It takes the nodes in this order. Of each it asks for the star and the least
-//! dirty area at its point ([`site::Sites`]), which looks them up unless it remembers them: the nodes at one point are reached at several
-//! moments. If a walk may go on from the node, it adds what the node's links lead to, unless it is there ([`walk::visit`],
-//! [`traversal::follow`]). Links mostly stand at both their ends, so most nodes have one back to where they were found from. The set
-//! remembers that place, and a link back needs no look-up. It is done once it has taken the last node. The dirt is kept on the way: the
-//! least so far, by area, then port ([`dirt::dirt_after`]). So are the nodes with their entries, which callers need for their results.
-//! [`walk::reach`] is the same without the entries.
+//! [`walk::reach_seen`] keeps the nodes found so far in a list ([`found::Found`]), which has each once and in the order of finding: first the
+//! starts, then each further node as it is found. It takes the nodes in this order. If a walk may go on from a node, it adds what the node's
+//! links lead to, unless it is there ([`walk::visit`], [`traversal::follow`]).
+//!
+//! Points at which a node was found have numbers ([`points::Points`]), and for each the list keeps what the ground has there, the star and
+//! the least dirty area ([`site::Site`]), and a mark for each entry of the star. Whether a node is in the list is told by the mark of its
+//! entry; the few nodes without an entry are kept in a set of their own ([`strays::Strays`]). Most links stay at a point, and lead to a node
+//! whose point's number is known. Of the others, most lead to where their node was found from: the list remembers that place for each node,
+//! and such a link needs no look-up at all.
+//!
+//! It is done once it has taken the last node. The dirt is kept on the way: the least so far, by area, then port ([`dirt::dirt_after`]). So
+//! are the entries of the nodes, which callers need for their results. [`walk::reach`] is the same without the entries.
 //!
 //! # Why that is enough
 //!
@@ -34,17 +38,20 @@
 //!
 //! # What it costs
 //!
-//! At most one look-up of an area and one of a star for each node that is reached, mostly one for each point, and one look-up in a hash table
-//! for each link of an open node that the mode takes, save those back to the node from which it was found. Only where a tier is asked for and
-//! a path leads to another point is one more star looked up. Sorting the nodes takes n log n comparisons.
+//! One look-up of an area and one of a star for each point at which nodes are reached, and for each link of an open node that the mode takes
+//! a search among the entries of the star to which it leads, save those back to the node from which it was found. A link to another point
+//! takes one look-up in a hash table of points before. Only where a tier is asked for and a path leads to another point is one more star
+//! looked up. Sorting the nodes takes n log n comparisons.
 #![tactic(auto)]
 
 mod dirt;
 mod entries;
 mod found;
 pub mod hasher;
+mod points;
 pub mod seen;
 mod site;
+mod strays;
 mod traversal;
 pub mod walk;
 

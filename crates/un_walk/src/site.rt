@@ -1,12 +1,11 @@
 //! What a ground has at a point.
 
-ghost use Rattle.std.specs.Prelude.{◌≡◌, ◌≤◌, ◌<◌, ◌+◌, IfOk};
+ghost use Rattle.std.specs.Prelude.{◌≡◌, ◌≤◌, ◌+◌, length, slice_get};
+ghost use Rattle.std.specs.List.{position};
 ghost use Rattle.std.specs.Option.{option_copied};
-ghost use Rattle.un_walk.specs.Entries.{entry_in};
-ghost use Rattle.un_walk.specs.Site.{star_of, IsSite, AreSites};
+ghost use Rattle.un_defs.specs.Orders.{same_port};
+ghost use Rattle.un_walk.specs.Site.{star_of, IsSite};
 
-use crate::traversal::is_same_point;
-use std::alloc::{AllocError, Global};
 use un_defs::{Ground, Port, Spot, Star};
 use un_geom::Point;
 use un_steps::Steps;
@@ -20,70 +19,37 @@ pub(crate) struct Site<'a> {
 }
 
 impl<'a> Site<'a> {
-    /// The entry of a port, if the star has one.
-    pub(crate) fn entry(&self, port: Port) -> Option<&'a Spot>
-        ensures { option_copied result ≡ entry_in (star_of self.now) port }
+    /// How many entries the star has.
+    pub(crate) fn entry_count(&self) -> usize
+        ensures { result ≡ length (star_of self.now).spots }
     {
-        self.star?.entry(port)
-    }
-}
-
-/// How many sites are remembered.
-const PLACES: usize = 256;
-
-/// The sites that were looked up last. Each is remembered at a place that its point decides, until another takes the place.
-#[derive(Drop)]
-pub(crate) struct Sites<'a> {
-    places: Vec<Option<Site<'a>>>,
-}
-
-// The place of a point. Points near one another mostly have different places.
-fn place_of(at: Point) -> usize
-    ensures { result < 256 }
-{
-    let x = at.x.cast_unsigned().wrapping_mul(0x9e37_79b1);
-    let y = at.y.cast_unsigned().wrapping_mul(0x85eb_ca77);
-    let z = at.z.cast_unsigned().wrapping_mul(0xc2b2_ae3d);
-    ((x ^ y ^ z) >> 16) as usize % PLACES
-}
-
-impl<'a> Sites<'a> {
-    /// Nothing is remembered yet. The ground is there for the contract alone.
-    pub(crate) fn new<G: Ground>(alloc: Global, _over: &G) -> Result<Sites<'a>, AllocError>
-        ensures { IfOk result (AreSites (G.stars_and_areas _over.now)) }
-    {
-        let places = vec![in alloc; None; PLACES]?;
-        Ok(Sites { places })
-    }
-
-    /// What the ground has at the point. Nothing is looked up where the site is remembered. `steps` counts the star that is looked up.
-    pub(crate) fn at<G: Ground, L>(
-        &mut self,
-        over: &'a G,
-        at: Point,
-        steps: &mut Steps<L>,
-    ) -> Site<'a>
-        requires { AreSites (G.stars_and_areas over.now) self.old }
-        ensures kept { AreSites (G.stars_and_areas over.now) self.new }
-        ensures site { IsSite (G.stars_and_areas over.now) result }
-        ensures at { result.at ≡ at }
-        ensures once { steps.new ≤ steps.old + 1 }
-        ensures never_falls { steps.old ≤ steps.new }
-    {
-        let place = place_of(at);
-        match self.places[place] {
-            Some(site) if is_same_point(site.at, at) => site,
-            _ => {
-                let site = looked_up(over, at, steps);
-                self.places[place] = Some(site);
-                site
-            }
+        match self.star {
+            Some(star) => star.spots.as_slice().len(),
+            None => 0,
         }
     }
+
+    /// The place of a port's entry in the star, if it has one.
+    pub(crate) fn place(&self, port: Port) -> Option<usize>
+        ensures { result ≡ position (λ s. same_port s.port port) (star_of self.now).spots }
+    {
+        self.star?
+            .spots
+            .as_slice()
+            .iter()
+            .position(|spot| spot.port == port)
+    }
+
+    /// The entry at a place of the star.
+    pub(crate) fn spot_at(&self, place: usize) -> Option<&'a Spot>
+        ensures { option_copied result ≡ slice_get (star_of self.now).spots place }
+    {
+        self.star?.spots.as_slice().get(place)
+    }
 }
 
-// What the ground has at the point.
-fn looked_up<'a, G: Ground, L>(over: &'a G, at: Point, steps: &mut Steps<L>) -> Site<'a>
+/// What the ground has at the point. `steps` counts the star.
+pub(crate) fn looked_up<'a, G: Ground, L>(over: &'a G, at: Point, steps: &mut Steps<L>) -> Site<'a>
     ensures site { IsSite (G.stars_and_areas over.now) result }
     ensures at { result.at ≡ at }
     ensures once { steps.new ≤ steps.old + 1 }

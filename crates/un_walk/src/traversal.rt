@@ -1,16 +1,17 @@
 //! The links by which a walk goes on from a node.
 
-ghost use Rattle.std.specs.Prelude.{◌≡◌, ◌<◌, ◌≤◌, ◌&&◌, ◌⊎◌, not, length, Some, None, IsTrue, OnOk};
+ghost use Rattle.std.specs.Prelude.{◌≡◌, ◌<◌, ◌≤◌, ◌+◌, ◌&&◌, ◌⊎◌, not, length, Some, None, IsTrue, OnOk};
 ghost use Rattle.std.specs.List.{list_any};
 ghost use Rattle.un_geom.specs.Places.{same_point};
 ghost use Rattle.un_defs.specs.Ground.{entry, ties};
 ghost use Rattle.un_defs.specs.Reach.{mode_takes, is_path, is_shut, controls, goes_by};
+ghost use Rattle.un_walk.specs.Found.{nodes, IsFoundOver};
 ghost use Rattle.un_walk.specs.Growth.{Grows};
 ghost use Rattle.un_walk.specs.Ticks.{TiesStay, TieStays};
 
 use crate::entries::is_controlled;
 use crate::found::Found;
-use std::alloc::AllocError;
+use std::alloc::{AllocError, Global};
 use un_defs::{Barriers, Ground, LinkName, Mode, Node, Spot, Star, Tie};
 use un_geom::Point;
 use un_steps::Steps;
@@ -111,27 +112,30 @@ fn goes_by<G: Ground, L>(
 }
 
 /// Adds the nodes to which the links of an open node lead.
-pub(crate) fn follow<G: Ground, L>(
-    over: &G,
+pub(crate) fn follow<'a, G: Ground, L>(
+    alloc: Global,
+    over: &'a G,
     place: &Place,
     mode: Mode,
     barriers: &Barriers,
-    found: &mut Found,
+    found: &mut Found<'a>,
     steps: &mut Steps<L>,
 ) -> Result<(), AllocError>
-    requires found { place.now.number < length found.old }
+    requires over { IsFoundOver (G.stars_and_areas over.now) found.old }
+    requires found { place.now.number < length (nodes found.old) }
     requires star { place.now.star.now ≡ (G.stars_and_areas over.now).stars place.now.node.at }
     requires entry { entry (G.stars_and_areas over.now) place.now.node ≡ Some place.now.spot.now }
-    ensures next { OnOk result (Grows found.old found.new
+    ensures over { OnOk result (IsFoundOver (G.stars_and_areas over.now) found.new) }
+    ensures next { OnOk result (Grows (nodes found.old) (nodes found.new)
         (λ m. list_any (goes_by (G.stars_and_areas over.now) barriers.now mode place.now.node m)
         (ties (G.stars_and_areas over.now) place.now.node))) }
     ensures once { TiesStay (G.stars_and_areas over.now) barriers.now place.now.node
-        → OnOk result (steps.new ≡ steps.old) }
+        → OnOk result (steps.new + length (nodes found.old) ≤ steps.old + length (nodes found.new)) }
     ensures never_falls { steps.old ≤ steps.new }
 {
     for tie in place.spot.ties.as_slice() {
         if goes_by(over, place, tie, mode, barriers, steps) {
-            found.add(tie.to, place.number)?;
+            found.add(alloc, over, tie.to, place.number, steps)?;
         }
     }
     Ok(())

@@ -5,6 +5,7 @@ ghost use Rattle.std.specs.List.{list_any};
 ghost use Rattle.un_defs.specs.Ground.{entry};
 ghost use Rattle.un_defs.specs.Orders.{same_node};
 ghost use Rattle.un_defs.specs.Reach.{IsReach, leads, dirt, meets_condition};
+ghost use Rattle.un_walk.specs.Found.{nodes, IsFoundOver};
 ghost use Rattle.un_walk.specs.Growth.{Grows};
 ghost use Rattle.un_walk.specs.Seen.{nodes_of, spot_of, HaveEntries};
 ghost use Rattle.un_walk.specs.Site.{IsSite};
@@ -13,7 +14,7 @@ ghost use Rattle.un_walk.specs.Ticks.{IsLookedUpOnce};
 use crate::dirt::dirt_after;
 use crate::found::Found;
 use crate::seen::{Seen, sort_by_node};
-use crate::site::{Site, Sites};
+use crate::site::Site;
 use crate::traversal::{Place, follow};
 use std::alloc::{AllocError, Global};
 use un_defs::port::Nodes;
@@ -53,14 +54,25 @@ impl ReachedSeen<'_> {
     }
 }
 
-fn found_starts(alloc: Global, starts: &[Node]) -> Result<Found, AllocError>
-    ensures { IfOk result (λ found. Grows [] found (λ n. list_any (λ s. same_node s n) starts.now)) }
+fn add_starts<'a, G: Ground, L>(
+    alloc: Global,
+    over: &'a G,
+    starts: &[Node],
+    found: &mut Found<'a>,
+    steps: &mut Steps<L>,
+) -> Result<(), AllocError>
+    requires over { IsFoundOver (G.stars_and_areas over.now) found.old }
+    requires empty { nodes found.old ≡ [] }
+    ensures over { OnOk result (IsFoundOver (G.stars_and_areas over.now) found.new) }
+    ensures starts { OnOk result
+        (Grows [] (nodes found.new) (λ n. list_any (λ s. same_node s n) starts.now)) }
+    ensures once { OnOk result (steps.new ≤ steps.old + length (nodes found.new)) }
+    ensures never_falls { steps.old ≤ steps.new }
 {
-    let mut found = Found::new(alloc);
     for start in starts {
-        found.add(*start, 0)?;
+        found.add(alloc, over, *start, 0, steps)?;
     }
-    Ok(found)
+    Ok(())
 }
 
 fn is_shut_by_dirt(barriers: &Barriers, dirty_here: bool) -> bool
@@ -76,24 +88,27 @@ fn is_shut_by_barrier(barriers: &Barriers, spot: &Spot) -> bool
 }
 
 /// Adds the nodes to which a walk goes on from this one, which has the number among those found.
-fn visit<G: Ground, L>(
-    over: &G,
+fn visit<'a, G: Ground, L>(
+    alloc: Global,
+    over: &'a G,
     one: &Seen,
     number: usize,
     site: &Site,
     mode: Mode,
     barriers: &Barriers,
-    found: &mut Found,
+    found: &mut Found<'a>,
     steps: &mut Steps<L>,
 ) -> Result<(), AllocError>
-    requires found { number < length found.old }
+    requires over { IsFoundOver (G.stars_and_areas over.now) found.old }
+    requires found { number < length (nodes found.old) }
     requires site { IsSite (G.stars_and_areas over.now) site.now }
     requires at { site.now.at ≡ one.now.node.at }
     requires entry { spot_of one.now ≡ entry (G.stars_and_areas over.now) one.now.node }
-    ensures next { OnOk result (Grows found.old found.new
+    ensures over { OnOk result (IsFoundOver (G.stars_and_areas over.now) found.new) }
+    ensures next { OnOk result (Grows (nodes found.old) (nodes found.new)
         (leads (G.stars_and_areas over.now) barriers.now mode one.now.node)) }
     ensures once { IsLookedUpOnce (G.stars_and_areas over.now) barriers.now
-        → OnOk result (steps.new ≡ steps.old) }
+        → OnOk result (steps.new + length (nodes found.old) ≤ steps.old + length (nodes found.new)) }
     ensures never_falls { steps.old ≤ steps.new }
 {
     let node = one.node;
@@ -113,6 +128,7 @@ fn visit<G: Ground, L>(
         return Ok(());
     }
     follow(
+        alloc,
         over,
         &Place {
             node,
@@ -150,21 +166,19 @@ pub fn reach_seen<'a, G: Ground, L>(
         → IfOk result (λ r. steps.new ≤ steps.old + length r.seen.items) }
     ensures never_falls { steps.old ≤ steps.new }
 {
-    let mut found = found_starts(alloc, starts)?;
-    let mut seen = Vec::new(alloc);
+    let mut found = Found::new(alloc);
+    add_starts(alloc, over, starts, &mut found, steps)?;
     let mut least = None;
-    let mut sites = Sites::new(alloc, over)?;
     let mut next = 0;
     while next < found.len() {
-        let node = found.at(next);
-        let site = sites.at(over, node.at, steps);
-        let spot = site.entry(node.port);
-        let one = Seen { node, spot };
-        least = dirt_after(least, site.area, node.port);
-        visit(over, &one, next, &site, mode, barriers, &mut found, steps)?;
-        seen.push(one)?;
+        let (one, site) = found.at(over, next);
+        least = dirt_after(least, site.area, one.node.port);
+        visit(
+            alloc, over, &one, next, &site, mode, barriers, &mut found, steps,
+        )?;
         next += 1;
     }
+    let mut seen = found.seen(alloc)?;
     sort_by_node(&mut seen);
     Ok(ReachedSeen { seen, dirt: least })
 }

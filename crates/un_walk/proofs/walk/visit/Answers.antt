@@ -6,6 +6,7 @@ use Rattle.un_defs.specs.Ground.{Ground, entry, ties, is_dirty, least_area_at}
 use Rattle.un_defs.specs.Reach.{is_open, goes_by, leads}
 use Rattle.un_walk.specs.declared.site.Site.{Site}
 use Rattle.un_walk.specs.Entries.{entry_in}
+use Rattle.un_walk.specs.Found.{nodes}
 use Rattle.un_walk.specs.Site.{star_of, IsSite}
 use Rattle.un_walk.proofs.DirtMet.{is_dirty_by}
 use Rattle.un_walk.proofs.Growing.{grows_none, grows_same}
@@ -30,7 +31,7 @@ returns-then-is_shut_by_dirt-clause-next g c =
     let G = g.G.Ground.stars_and_areas c.args.over.now in
     let B = c.args.barriers.now in
     let n = c.args.one.now.node in
-    grows_none c.args.found.now (leads G B c.args.mode n) (leads_not G B c.args.mode n (shut_by_dirt G B c.args.mode n
+    grows_none (nodes c.args.found.now) (leads G B c.args.mode n) (leads_not G B c.args.mode n (shut_by_dirt G B c.args.mode n
     (ap (λ b. B.consistent && b) (sym (dirty_here G c.args.site.now n c.requires.site c.requires.at) ∙ sym c.is_some.ensures) ∙ sym c.is_shut_by_dirt.ensures ∙ c.if-is_shut_by_dirt.true)))
 
 pub returns-then-stop_at-clause-next : goal.returns-then-stop_at-clause-next
@@ -38,14 +39,14 @@ returns-then-stop_at-clause-next g c =
     let G = g.G.Ground.stars_and_areas c.args.over.now in
     let B = c.args.barriers.now in
     let n = c.args.one.now.node in
-    grows_none c.args.found.now (leads G B c.args.mode n) (leads_not G B c.args.mode n (shut_by_stop G B c.args.mode n (sym c.stop_at.ensures ∙ c.if-stop_at.true)))
+    grows_none (nodes c.args.found.now) (leads G B c.args.mode n) (leads_not G B c.args.mode n (shut_by_stop G B c.args.mode n (sym c.stop_at.ensures ∙ c.if-stop_at.true)))
 
 pub returns-in_default-clause-next : goal.returns-in_default-clause-next
 returns-in_default-clause-next g c =
     let G = g.G.Ground.stars_and_areas c.args.over.now in
     let B = c.args.barriers.now in
     let n = c.args.one.now.node in
-    grows_none c.args.found.now (leads G B c.args.mode n) (leads_nowhere G B c.args.mode n (sym c.requires.entry ∙ ap option_copied c.in_default.is))
+    grows_none (nodes c.args.found.now) (leads G B c.args.mode n) (leads_nowhere G B c.args.mode n (sym c.requires.entry ∙ ap option_copied c.in_default.is))
 
 pub returns-clause-next : goal.returns-clause-next
 returns-clause-next g c =
@@ -55,7 +56,7 @@ returns-clause-next g c =
     let open_here : is_open G B n ≡ true = is_open_by G B c.args.mode n c.in-Some.spot.now (sym c.requires.entry ∙ ap option_copied c.in-Some.is)
     (sym c.is_shut_by_barrier.ensures ∙ c.if-is_shut_by_barrier.false) (sym c.stop_at.ensures ∙ c.if-stop_at.false)
     (ap (λ b. B.consistent && b) (sym (dirty_here G c.args.site.now n c.requires.site c.requires.at) ∙ sym c.is_some.ensures) ∙ sym c.is_shut_by_dirt.ensures ∙ c.if-is_shut_by_dirt.false) in
-    on_ok c.follow.result _ _ (grows_same c.args.found.now c.follow.new.found (λ m. list_any (goes_by G B c.args.mode n m) (ties G n)) (leads G B c.args.mode n) (leads_open G B c.args.mode n open_here))
+    on_ok c.follow.result _ _ (grows_same (nodes c.args.found.now) (nodes c.follow.new.found) (λ m. list_any (goes_by G B c.args.mode n m) (ties G n)) (leads G B c.args.mode n) (leads_open G B c.args.mode n open_here))
     c.follow.ensures.next
 
 pub returns-clause-once : goal.returns-clause-once

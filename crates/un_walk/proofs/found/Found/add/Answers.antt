@@ -1,0 +1,83 @@
+use Rattle.std.proofs.Common.{◌≡◌, ℕ, ◌+◌, ◌≤◌, length, get_or, slice_get, Some, Result, Ok, Err, OnOk, sym, ap, subst, ◌∙◌, arith}
+use Rattle.std.proofs.lemmas.Option.{slice_get-get_or}
+use Rattle.un_defs.specs.declared.port.Node.{Node}
+use Rattle.un_defs.specs.declared.star.Spot.{Spot}
+use Rattle.un_defs.specs.declared.star.Star.{Star}
+use Rattle.un_defs.specs.Orders.{same_port}
+use Rattle.un_defs.specs.Ground.{Ground}
+use Rattle.un_walk.specs.declared.found.Visited.{Visited}
+use Rattle.un_walk.specs.declared.found.Found.{Found}
+use Rattle.un_walk.specs.Site.{star_of}
+use Rattle.un_walk.specs.Found.{seens_of, nodes, IsNumberOf, place_in, IsPlaceIn, IsFoundOver}
+use Rattle.un_walk.specs.Seen.{nodes_of}
+use Rattle.un_walk.specs.Growth.{with_node}
+use Rattle.un_walk.proofs.FoundOver.{star_here, visited_within, entry_at, no_entry_at, count_nodes, add_counts}
+use Rattle.un_walk.proofs.Marking.{position_some, position_none}
+use Rattle.un_walk.proofs.found.Found.add.Goals as goal
+
+on_ok : {T E : Type 0} (r : Result T E) (P Q : Type 0) → (P → Q) → OnOk r P → OnOk r Q
+on_ok (Ok x) P Q f h = f h
+on_ok (Err e) P Q f h = h
+
+-- the star that is read is the one at the node's point
+star_is : (G : Ground) (f : Found) (is : IsFoundOver G f) (n : Node) (number : ℕ) (v : Visited) → IsNumberOf f.points n.at number → v ≡ get_or f.visited.items number v → star_of v.site ≡ G.stars n.at
+star_is G f is n number v h e =
+    star_here G f is n number v h (slice_get-get_or f.visited.items number v (visited_within G f is n.at number h) ∙ ap (λ (x : Visited). Some x) (sym e))
+
+pub add_marked-requires-clause-item : goal.add_marked-requires-clause-item
+add_marked-requires-clause-item g c =
+    let G : Ground = g.G.Ground.stars_and_areas c.args.over.now in
+    let f : Found = c.number_from.new.self in
+    let n : Node = c.args.node in
+    let star : star_of c.index.result.now.site ≡ G.stars n.at = star_is G f c.in_ok-number.ensures.over n c.in_ok-number.number c.index.result.now c.in_ok-number.ensures.number c.index.ensures in
+    let place : IsPlaceIn (star_of c.index.result.now.site) n.port c.in-Some.place = position_some (λ (s : Spot). same_port s.port n.port) (star_of c.index.result.now.site).spots c.in-Some.place (sym c.place.ensures ∙ c.in-Some.is) in
+    record {
+      number = c.in_ok-number.ensures.number;
+      entry = c.spot_at-spot.ensures ∙ ap (λ (s : Star). slice_get s.spots c.in-Some.place) star ∙ sym (entry_at G n c.in-Some.place (subst (λ s. IsPlaceIn s n.port c.in-Some.place) star place));
+      from = omega (arith, c.requires.from, ap (λ l. length l.items) c.in_ok-number.ensures.items, count_nodes c.args.self.now);
+    }
+
+pub add_marked-requires-clause-place : goal.add_marked-requires-clause-place
+add_marked-requires-clause-place g c =
+    let G : Ground = g.G.Ground.stars_and_areas c.args.over.now in
+    let f : Found = c.number_from.new.self in
+    let n : Node = c.args.node in
+    let star : star_of c.index.result.now.site ≡ G.stars n.at = star_is G f c.in_ok-number.ensures.over n c.in_ok-number.number c.index.result.now c.in_ok-number.ensures.number c.index.ensures in
+    subst (λ s. IsPlaceIn s n.port c.in-Some.place) star
+    (position_some (λ (s : Spot). same_port s.port n.port) (star_of c.index.result.now.site).spots c.in-Some.place (sym c.place.ensures ∙ c.in-Some.is))
+
+pub add_stray-requires-clause-none : goal.add_stray-requires-clause-none
+add_stray-requires-clause-none g c =
+    let G : Ground = g.G.Ground.stars_and_areas c.args.over.now in
+    let f : Found = c.number_from.new.self in
+    let n : Node = c.args.node in
+    let star : star_of c.index.result.now.site ≡ G.stars n.at = star_is G f c.in_ok-number.ensures.over n c.in_ok-number.number c.index.result.now c.in_ok-number.ensures.number c.index.ensures in
+    no_entry_at G n (subst (λ (s : Star). length s.spots ≤ place_in s n.port) star
+    (position_none (λ (s : Spot). same_port s.port n.port) (star_of c.index.result.now.site).spots (sym c.place.ensures ∙ c.in-None.is)))
+
+pub add_stray-requires-clause-item : goal.add_stray-requires-clause-item
+add_stray-requires-clause-item g c =
+    let G : Ground = g.G.Ground.stars_and_areas c.args.over.now in
+    let f : Found = c.number_from.new.self in
+    let n : Node = c.args.node in
+    let star : star_of c.index.result.now.site ≡ G.stars n.at = star_is G f c.in_ok-number.ensures.over n c.in_ok-number.number c.index.result.now c.in_ok-number.ensures.number c.index.ensures in
+    record {
+      number = c.in_ok-number.ensures.number;
+      entry = sym (no_entry_at G n (subst (λ (s : Star). length s.spots ≤ place_in s n.port) star
+          (position_none (λ (s : Spot). same_port s.port n.port) (star_of c.index.result.now.site).spots (sym c.place.ensures ∙ c.in-None.is))));
+      from = omega (arith, c.requires.from, ap (λ l. length l.items) c.in_ok-number.ensures.items, count_nodes c.args.self.now);
+    }
+
+pub returns-in-Some-clause-once : goal.returns-in-Some-clause-once
+returns-in-Some-clause-once g c =
+    let f : Found = c.args.self.now in
+    let same : nodes c.number_from.new.self ≡ nodes f = ap (λ l. nodes_of (seens_of l.items)) c.in_ok-number.ensures.items in
+    on_ok c.add_marked.result _ _ (λ e. subst (λ ns. c.number_from.new.steps + length (nodes f) ≤ c.args.steps.now + length ns) (sym (e ∙ ap (λ ns. with_node ns c.args.node) same))
+    (add_counts (g.G.Ground.stars_and_areas c.args.over.now) f c.requires.over c.args.node c.args.steps.now c.number_from.new.steps c.in_ok-number.ensures.once)) c.add_marked.ensures.nodes
+
+pub returns-in-None-clause-once : goal.returns-in-None-clause-once
+returns-in-None-clause-once g c =
+    let f : Found = c.args.self.now in
+    let same : nodes c.number_from.new.self ≡ nodes f = ap (λ l. nodes_of (seens_of l.items)) c.in_ok-number.ensures.items in
+    on_ok c.add_stray.result _ _ (λ e. subst (λ ns. c.number_from.new.steps + length (nodes f) ≤ c.args.steps.now + length ns) (sym (e ∙ ap (λ ns. with_node ns c.args.node) same))
+    (add_counts (g.G.Ground.stars_and_areas c.args.over.now) f c.requires.over c.args.node c.args.steps.now c.number_from.new.steps c.in_ok-number.ensures.once)) c.add_stray.ensures.nodes
