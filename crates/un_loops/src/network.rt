@@ -104,6 +104,11 @@ fn add_links(
     Ok(())
 }
 
+/// Half as many links again as there are nodes. Networks seldom have more, and a map that is full moves all its links.
+fn room_for_links(nodes: &[OpenNode]) -> usize {
+    nodes.len().saturating_add(nodes.len() / 2)
+}
+
 /// The links between the open nodes, with the places of their ends. Each stands at both, and is taken from the earlier one.
 pub(crate) fn links_between(
     alloc: Global,
@@ -117,7 +122,7 @@ pub(crate) fn links_between(
         → IsLinkedAt tier nodes.now x i j → IsNamedIn links x) }
 {
     let hasher = BuildHasherDefault::new();
-    let mut links = IndexMap::with_capacity_and_hasher(alloc, nodes.len(), hasher)?;
+    let mut links = IndexMap::with_capacity_and_hasher(alloc, room_for_links(nodes), hasher)?;
     for at in 0..nodes.len() {
         add_links(nodes, tier, at, &mut links)?;
     }

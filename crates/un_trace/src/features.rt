@@ -81,8 +81,8 @@ pub(crate) fn features_of<'a>(alloc: Global, seen: &[Seen<'a>]) -> Result<Featur
         ≡ filter_map (first_spot seen.now) (feature_ids (nodes_of seen.now))) }
 {
     let mut features = Features {
-        parts: Vec::new(alloc),
-        firsts: Vec::new(alloc),
+        parts: Vec::with_capacity(alloc, seen.len())?,
+        firsts: Vec::with_capacity(alloc, seen.len())?,
     };
     let mut begin = 0;
     while begin < seen.len() {

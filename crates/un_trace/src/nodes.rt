@@ -16,7 +16,7 @@ pub(crate) fn seen_in_result<'a>(
 ) -> Result<Vec<Seen<'a>>, AllocError>
     ensures { IfOk result (λ seen. seen.items ≡ in_result barriers.now with_barriers reached.now) }
 {
-    let mut seen = Vec::new(alloc);
+    let mut seen = Vec::with_capacity(alloc, reached.len())?;
     for one in reached {
         if with_barriers || !one.is_barrier(barriers) {
             seen.push(*one)?;
