@@ -3,6 +3,7 @@
 //! HTTP requests on the loopback under the schema that it reads from standard input.
 #![tactic(auto)]
 
+use std::alloc::AllocError;
 use std::net::{Ipv4Addr, SocketAddr, TcpListener};
 use std::process::ExitCode;
 use std::rt::Env;
@@ -21,6 +22,9 @@ const NO_COMMAND: u8 = 2;
 
 /// The status where the port cannot be listened at.
 const NO_DOOR: u8 = 5;
+
+/// The largest block that the C library's allocator learns from, in bytes: 32 MiB without what it adds to a block.
+const LARGEST_BLOCK: usize = 32 * 1024 * 1024 - 8192;
 
 // The words behind the program's name.
 fn words<R: Env + AllocGlobal>(rt: &R) -> io::Result<Vec<Word>> {
@@ -53,7 +57,16 @@ fn listen(rt: &HostRuntime, port: u16) -> io::Result<TcpDoor> {
     Ok(TcpDoor::new(TcpListener::bind(rt, address)?))
 }
 
+// Takes a large block and gives it back. The C library's allocator takes that as a sign that blocks of up to this size come and go: it keeps
+// what is given back later, up to twice as much, for the next walk, where else the system would take each page away and clear it again.
+// The block's pages are never touched, so it takes no memory. Where it cannot be had, nothing is lost but time.
+fn keep_what_is_given_back<R: AllocGlobal>(rt: &R) {
+    let block: Result<Vec<u8>, AllocError> = Vec::with_capacity(rt.alloc(), LARGEST_BLOCK);
+    drop(block);
+}
+
 fn main(rt: HostRuntime) -> ExitCode {
+    keep_what_is_given_back(&rt);
     let status = match words(&rt) {
         Ok(words) => match read_words(words.as_slice()) {
             Some(ProgramCommand::Serve { port, workers: _ }) => match listen(&rt, port) {
