@@ -1,5 +1,5 @@
 -- What a walk has found, with one point more and with one node more.
-use Rattle.std.proofs.Common.{◌≡◌, ◌⊎◌, ℕ, zero, suc, ◌+◌, ◌<◌, ◌≤◌, Bool, true, false, cond, ◌||◌, List, [], ◌∷◌, ◌++◌, map, length, get_or, set, slice_get, All, IsSome, Option, Some, None, refl, sym, ap, subst, ◌∙◌, length-append, inl, inr, rules, arith}
+use Rattle.std.proofs.Common.{add-one, ◌≡◌, ◌⊎◌, ℕ, zero, suc, ◌+◌, ◌<◌, ◌≤◌, Bool, true, false, cond, ◌||◌, List, [], ◌∷◌, ◌++◌, map, length, get_or, set, slice_get, All, IsSome, Option, Some, None, SomeIff, IfSome, IfNone, ◌-◌, refl, sym, ap, subst, ◌∙◌, length-append, inl, inr, rules, arith}
 use Rattle.std.specs.List.{IsDistinct, position_or_len}
 use Rattle.std.specs.Option.{option_map}
 use Rattle.std.proofs.Math.Seq.{map-set_same}
@@ -24,10 +24,11 @@ use Rattle.un_walk.specs.declared.found.Found.{Found}
 use Rattle.un_walk.specs.Growth.{has_node, with_node}
 use Rattle.un_walk.specs.Seen.{node_of, spot_of, HaveEntries}
 use Rattle.un_walk.specs.Site.{star_of, IsSite}
-use Rattle.un_walk.specs.Found.{number_of, IsNumberOf, IsWithoutNumber, with_point, place_in, IsPlaceIn, is_marked, seens, nodes, IsUnmarked, IsInside, IsMarkedAt, WasMarkedAt, IsItemOver, IsFoundOver}
+use Rattle.un_walk.specs.Found.{number_of, IsNumberOf, IsWithoutNumber, with_point, place_in, IsPlaceIn, mark_at, IsMark, seens, nodes, IsUnmarked, IsInside, IsMarkedAt, WasMarkedAt, IsItemOver, IsFoundOver}
 use Rattle.un_walk.proofs.Entered.{each_entry, nodes_end, entries_end}
 use Rattle.un_walk.proofs.Growing.{contains_at}
 use Rattle.un_walk.proofs.Marking.{first_passes, position_map, any_last, point_new, number_stays, marked_more, marked_at, marked_set}
+use Rattle.un_walk.proofs.Walked.{among_at}
 use Rattle.un_walk.proofs.Once.{same_node_laws}
 
 all_among : {X : Type 0} (P : X → Type 0) (xs : List X) (x : X) → All P xs → Among xs x → P x
@@ -47,7 +48,7 @@ all_one P x h = All-cons P x [] h (All-nil P)
 abbrev no_entry : Option Spot
 no_entry = None
 
-no_spot : IsSome no_entry → ⊥
+pub no_spot : IsSome no_entry → ⊥
 no_spot h = search rules
 
 -- the nodes of items
@@ -88,6 +89,37 @@ with_old ns n e = ap (λ b. cond b ns (ns ++ n ∷ [])) e
 pub with_new : (ns : List Node) (n : Node) → has_node ns n ≡ false → with_node ns n ≡ ns ++ n ∷ []
 with_new ns n e = ap (λ b. cond b ns (ns ++ n ∷ [])) e
 
+-- marks in a list with one node more
+pub mark_more : (ns : List Node) (n m : Node) (mark : ℕ) → same_node m n ≡ false → IsMark ns m mark → IsMark (ns ++ n ∷ []) m mark
+mark_more ns n m zero other h = has_more ns n m ∙ (λ i. h i || other i)
+mark_more ns n m (suc k) other h = later ns k h
+  where
+    later : (ns : List Node) (k : ℕ) → slice_get ns k ≡ Some m → slice_get (ns ++ n ∷ []) k ≡ Some m
+    later [] k e = cc
+    later (x ∷ ns) zero e = e
+    later (x ∷ ns) (suc k) e = later ns k e
+
+pub mark_new : (ns : List Node) (n : Node) → IsMark (ns ++ n ∷ []) n (suc (length ns))
+mark_new [] n = refl
+mark_new (x ∷ ns) n = mark_new ns n
+
+-- a marked node is in the list
+pub mark_has : (ns : List Node) (n : Node) (k : ℕ) → IsMark ns n (k + 1) → has_node ns n ≡ true
+mark_has ns n k h = list_any_from_among (same_node n) ns n (among_at ns k n (subst (IsMark ns n) (add-one k) h)) (node_itself n)
+
+-- what a mark less 1 tells
+pub mark_tells : (ns : List Node) (n : Node) (mark : ℕ) → IsMark ns n mark → (o : Option ℕ) → SomeIff o (1 ≤ mark) (mark - 1)
+    → IfSome o (λ k. slice_get ns k ≡ Some n) × IfNone o (has_node ns n ≡ false)
+mark_tells ns n zero h (Some k) e = absurd (omega (arith, e.0))
+mark_tells ns n zero h None e = (tt, h)
+mark_tells ns n (suc j) h (Some k) e = let same : j ≡ k = omega (arith, e.1) in (subst (λ i. slice_get ns i ≡ Some n) same h, tt)
+mark_tells ns n (suc j) h None e = absurd (e (omega arith))
+
+-- a mark that counts for a node with an entry alone
+pub none_with_entry : (o : Option ℕ) (P Q : Type 0) → IfNone o Q → IfNone o (P → Q)
+none_with_entry (Some k) P Q h = h
+none_with_entry None P Q h = λ _. h
+
 pub with_longer : (ns : List Node) (n : Node) → length ns ≤ length (with_node ns n)
 with_longer ns n = go (has_node ns n)
   where
@@ -106,7 +138,8 @@ same_found G f g is points visited strays items = record {
   origins = subst (λ l. All (λ (i : Item). i.from < length l) l) (sym items) is.origins;
   entries = subst (λ l. HaveEntries G (map (λ (x : Item). x.seen) l)) (sym items) is.entries;
   distinct = subst (λ l. IsDistinct same_node (map node_of (map (λ (x : Item). x.seen) l))) (sym items) is.distinct;
-  marked = λ n h. ap (λ l. is_marked l n) visited ∙ is.marked n h ∙ ap (λ l. has_node (map node_of (map (λ (x : Item). x.seen) l)) n) (sym items);
+  marked = λ n h. subst (λ l. IsMark (map node_of (map (λ (x : Item). x.seen) l)) n (mark_at g.visited.items n)) (sym items)
+      (subst (λ l. IsMark (nodes f) n (mark_at l n)) (sym visited) (is.marked n h));
   strays = λ n h. ap (λ l. has_node l n) strays ∙ is.strays n h ∙ ap (λ l. has_node (map node_of (map (λ (x : Item). x.seen) l)) n) (sym items);
 }
 
@@ -171,7 +204,8 @@ module _ (G : Ground) where
       origins = subst (λ l. All (λ (i : Item). i.from < length l.items) l.items) (sym items) is.origins;
       entries = subst (λ l. HaveEntries G (map (λ (x : Item). x.seen) l.items)) (sym items) is.entries;
       distinct = subst (λ l. IsDistinct same_node (map node_of (map (λ (x : Item). x.seen) l.items))) (sym items) is.distinct;
-      marked = λ n h. ap (λ l. is_marked l n) visited ∙ marked_more f.visited.items v unmarked.none n ∙ is.marked n h ∙ ap (λ l. has_node (map node_of (map (λ (x : Item). x.seen) l.items)) n) (sym items);
+      marked = λ n h. subst (λ l. IsMark (map node_of (map (λ (x : Item). x.seen) l.items)) n (mark_at g.visited.items n)) (sym items)
+          (subst (IsMark (nodes f) n) (sym (ap (λ l. mark_at l n) visited ∙ marked_more f.visited.items v unmarked.none n)) (is.marked n h));
       strays = λ n h. ap (λ l. has_node l n) strays ∙ is.strays n h ∙ ap (λ l. has_node (map node_of (map (λ (x : Item). x.seen) l.items)) n) (sym items);
     }
 
@@ -203,7 +237,7 @@ module _ (G : Ground) where
 
     -- the mark of a node with an entry, which stands at the place of the star with the number
     pub marked_here : (n : Node) (number place : ℕ) (v : Visited) → IsNumberOf f.points n.at number → IsPlaceIn (G.stars n.at) n.port place → slice_get f.visited.items number ≡ Some v
-        → (star_of v.site ≡ G.stars n.at) × (get_or v.marks.items place false ≡ has_node (nodes f) n) × (length v.marks.items ≡ length (star_of v.site).spots)
+        → (star_of v.site ≡ G.stars n.at) × IsMark (nodes f) n (get_or v.marks.items place 0) × (length v.marks.items ≡ length (star_of v.site).spots)
     marked_here n number place v h is_place at =
         let within : number < length f.visited.items = visited_within n.at number h in
         let mine : get_or f.visited.items number v ≡ v = get_or_from_slice_get f.visited.items number v v at in
@@ -211,8 +245,8 @@ module _ (G : Ground) where
         let star : star_of v.site ≡ G.stars n.at = star_here n number v h at in
         let some : IsSome (entry G n) = has_entry n place is_place in (
           star,
-          ap (λ i. get_or v.marks.items i false) (is_place.0 ∙ ap (λ s. place_in s n.port) (sym star))
-              ∙ sym (marked_at f.visited.items n v (ap (slice_get f.visited.items) (sym (visited_at n.at number h)) ∙ at)) ∙ is.marked n some,
+          subst (IsMark (nodes f) n) (marked_at f.visited.items n v (ap (slice_get f.visited.items) (sym (visited_at n.at number h)) ∙ at)
+              ∙ ap (λ i. get_or v.marks.items i 0) (ap (λ s. place_in s n.port) star ∙ sym is_place.0)) (is.marked n some),
           count,
         )
 
@@ -258,26 +292,33 @@ module _ (G : Ground) where
         (r.0, at, omega (arith, is_place.1, here.2, ap (λ s. length s.spots) here.0))
 
     -- a node whose mark was off is not found yet
-    pub marked_new : (n : Node) (number place : ℕ) → IsNumberOf f.points n.at number → IsPlaceIn (G.stars n.at) n.port place → (vs : List Visited) → IsMarkedAt f.visited.items vs number place → has_node (nodes f) n ≡ false
-    marked_new n number place h is_place vs mark = sym (marked_here n number place mark.before h is_place mark.at).1 ∙ mark.off
+    pub marked_new : (n : Node) (number place x : ℕ) → IsNumberOf f.points n.at number → IsPlaceIn (G.stars n.at) n.port place → (vs : List Visited) → IsMarkedAt f.visited.items vs number place x → has_node (nodes f) n ≡ false
+    marked_new n number place x h is_place vs mark = subst (IsMark (nodes f) n) mark.off (marked_here n number place mark.before h is_place mark.at).1
 
     -- a node whose mark was on is found already
-    pub marked_twice : (n : Node) (number place : ℕ) → IsNumberOf f.points n.at number → IsPlaceIn (G.stars n.at) n.port place → WasMarkedAt f.visited.items number place → has_node (nodes f) n ≡ true
-    marked_twice n number place h is_place was = sym (marked_here n number place was.0 h is_place was.1).1 ∙ was.2
+    pub marked_twice : (n : Node) (number place k : ℕ) → IsNumberOf f.points n.at number → IsPlaceIn (G.stars n.at) n.port place → WasMarkedAt f.visited.items number place (k + 1) → has_node (nodes f) n ≡ true
+    marked_twice n number place k h is_place was = mark_has (nodes f) n k (subst (IsMark (nodes f) n) was.2 (marked_here n number place was.0 h is_place was.1).1)
+
+    -- the mark of a node once another one is found
+    mark_after : (n : Node) (x : ℕ) → x ≡ length f.items.items + 1 → (m : Node) → IsSome (entry G m) → (b : Bool) → same_node m n ≡ b → IsMark (nodes f ++ n ∷ []) m (cond b x (mark_at f.visited.items m))
+    mark_after n x last m h false e = mark_more (nodes f) n m (mark_at f.visited.items m) e (is.marked m h)
+    mark_after n x last m h true e =
+        subst (λ (k : Node). IsMark (nodes f ++ n ∷ []) k x) (sym (node_same m n e))
+        (subst (IsMark (nodes f ++ n ∷ []) n) (sym (last ∙ ap (λ k. k + 1) (sym (count_nodes f)) ∙ add-one (length (nodes f)))) (mark_new (nodes f) n))
 
     -- one node more with an entry
-    pub marked_node : (i : Item) (place : ℕ) → IsItemOver G f i → IsPlaceIn (G.stars i.seen.node.at) i.seen.node.port place → (vs : List Visited) → IsMarkedAt f.visited.items vs i.number place
+    pub marked_node : (i : Item) (place : ℕ) → IsItemOver G f i → IsPlaceIn (G.stars i.seen.node.at) i.seen.node.port place → (vs : List Visited) (x : ℕ) → x ≡ length f.items.items + 1 → IsMarkedAt f.visited.items vs i.number place x
         → (g : Found) → g.points ≡ f.points → g.visited.items ≡ vs → g.strays ≡ f.strays → g.items.items ≡ f.items.items ++ i ∷ [] → IsFoundOver G g × (nodes g ≡ with_node (nodes f) i.seen.node)
-    marked_node i place item is_place vs mark g points visited strays items =
+    marked_node i place item is_place vs x last mark g points visited strays items =
         let n : Node = i.seen.node in
         let here = marked_here n i.number place mark.before item.number is_place mark.at in
-        let new : has_node (nodes f) n ≡ false = sym here.1 ∙ mark.off in
+        let new : has_node (nodes f) n ≡ false = subst (IsMark (nodes f) n) mark.off here.1 in
         let more : nodes g ≡ nodes f ++ n ∷ [] = nodes_more f g i items in
         let all : g.visited.items ≡ set f.visited.items i.number mark.after = visited ∙ mark.is in
         let within : i.number < length f.visited.items = visited_within n.at i.number item.number in
         let mine : get_or f.visited.items i.number mark.before ≡ mark.before = get_or_from_slice_get f.visited.items i.number mark.before mark.before mark.at in
         let count : length mark.after.marks.items ≡ length (star_of mark.after.site).spots =
-        ap length mark.marks ∙ length-set mark.before.marks.items place true ∙ here.2 ∙ ap (λ s. length (star_of s).spots) (sym mark.site) in
+        ap length mark.marks ∙ length-set mark.before.marks.items place x ∙ here.2 ∙ ap (λ s. length (star_of s).spots) (sym mark.site) in
         let site : IsSite G mark.before.site = subst (λ (x : Visited). IsSite G x.site) mine (All-get_or (λ (x : Visited). IsSite G x.site) f.visited.items i.number mark.before within is.sites) in (
           record {
             points = points ∙ is.points ∙ sym (map-set_same (λ (x : Visited). x.site.at) f.visited.items i.number mark.after mark.before (ap (λ s. s.at) mark.site ∙ ap (λ (x : Visited). x.site.at) (sym mine)))
@@ -289,10 +330,11 @@ module _ (G : Ground) where
             origins = origins_more i item g items;
             entries = entries_more i item g items;
             distinct = subst (IsDistinct same_node) (sym more) (IsDistinct-push same_node_laws (nodes f) n is.distinct new);
-            marked = λ m h. ap (λ l. is_marked l m) all
+            marked = λ m h. subst (λ l. IsMark l m (mark_at g.visited.items m)) (sym more)
+                (subst (IsMark (nodes f ++ n ∷ []) m) (sym (ap (λ l. mark_at l m) all
                 ∙ marked_set f.visited.items n i.number mark.before mark.after (visited_at n.at i.number item.number) mark.at mark.site place
-                (is_place.0 ∙ ap (λ s. place_in s n.port) (sym here.0)) (subst (λ s. place < length s.spots) (sym here.0) is_place.1) here.2 mark.marks m
-                ∙ ap (λ b. b || same_node m n) (is.marked m h) ∙ sym (has_more (nodes f) n m) ∙ ap (λ l. has_node l m) (sym more);
+                (is_place.0 ∙ ap (λ s. place_in s n.port) (sym here.0)) (subst (λ s. place < length s.spots) (sym here.0) is_place.1) here.2 x mark.marks m))
+                (mark_after n x last m h (same_node m n) refl));
             strays = λ m h. ap (λ l. has_node l m) strays ∙ is.strays m h ∙ sym (ap (λ b. has_node (nodes f) m || b) (unlike n m place is_place h) ∙ or_false (has_node (nodes f) m))
                 ∙ sym (has_more (nodes f) n m) ∙ ap (λ l. has_node l m) (sym more);
           },
@@ -314,8 +356,8 @@ module _ (G : Ground) where
             origins = origins_more i item g items;
             entries = entries_more i item g items;
             distinct = subst (IsDistinct same_node) (sym more) (IsDistinct-push same_node_laws (nodes f) n is.distinct new);
-            marked = λ m h. ap (λ l. is_marked l.items m) visited ∙ is.marked m h ∙ sym (ap (λ b. has_node (nodes f) m || b) (other m h (same_node m n) refl) ∙ or_false (has_node (nodes f) m))
-                ∙ sym (has_more (nodes f) n m) ∙ ap (λ l. has_node l m) (sym more);
+            marked = λ m h. subst (λ l. IsMark l m (mark_at g.visited.items m)) (sym more)
+                (mark_more (nodes f) n m (mark_at g.visited.items m) (other m h (same_node m n) refl) (subst (λ l. IsMark (nodes f) m (mark_at l.items m)) (sym visited) (is.marked m h)));
             strays = λ m h. ap (λ l. has_node l m) (strays ∙ with_new f.strays n off) ∙ has_more f.strays n m ∙ ap (λ b. b || same_node m n) (is.strays m h)
                 ∙ sym (has_more (nodes f) n m) ∙ ap (λ l. has_node l m) (sym more);
           },

@@ -1,5 +1,5 @@
 -- Numbers of points, and marks on the entries of stars.
-use Rattle.std.proofs.Common.{◌≡◌, ℕ, zero, suc, ◌+◌, ◌<◌, ◌≤◌, Bool, true, false, cond, not, ◌&&◌, ◌||◌, eqb, nat_lt, List, [], ◌∷◌, ◌++◌, map, length, get_or, set, take, drop, slice_get, find, All, Option, Some, None, refl, sym, ap, subst, ◌∙◌, append-nil, take_all, length-append, arith, true≢false}
+use Rattle.std.proofs.Common.{◌≡◌, ℕ, zero, suc, ◌+◌, ◌<◌, ◌≤◌, Bool, true, false, cond, not, ◌&&◌, ◌||◌, eqb, nat_lt, List, [], ◌∷◌, ◌++◌, map, length, get_or, set, take, drop, slice_get, find, All, Option, Some, None, IfSome, IfNone, refl, sym, ap, subst, ◌∙◌, append-nil, take_all, length-append, arith, true≢false}
 use Rattle.std.specs.List.{list_any, position, position_or_len, refill}
 use Rattle.std.specs.Option.{option_map_or, option_or}
 use Rattle.std.specs.Vec.{with_items}
@@ -18,7 +18,7 @@ use Rattle.un_defs.specs.Orders.{same_port, same_node}
 use Rattle.un_defs.proofs.Unique.{point_same, point_itself, port_same, port_itself}
 use Rattle.un_walk.specs.declared.found.Visited.{Visited}
 use Rattle.un_walk.specs.Site.{star_of}
-use Rattle.un_walk.specs.Found.{number_of, IsNumberOf, IsWithoutNumber, with_point, place_in, mark_of, is_marked}
+use Rattle.un_walk.specs.Found.{number_of, IsNumberOf, IsWithoutNumber, with_point, place_in, mark_of, mark_at}
 
 -- ---- the first element that passes a test
 
@@ -84,6 +84,11 @@ position_none p xs e = go (nat_lt (position_or_len p xs) (length xs)) refl e
     go true t e = absurd (not_some (sym e))
     go false t e = grind (arith, nat_tests, t)
 
+-- what a search among points tells
+pub searched : (ps : List Point) (p : Point) (o : Option ℕ) → o ≡ position (same_point p) ps → IfSome o (IsNumberOf ps p) × IfNone o (IsWithoutNumber ps p)
+searched ps p (Some k) e = (position_some (same_point p) ps k (sym e), tt)
+searched ps p None e = (tt, position_none (same_point p) ps (sym e))
+
 pub position_map : {X Y : Type 0} (f : X → Y) (p : Y → Bool) (xs : List X) → position_or_len p (map f xs) ≡ position_or_len (λ x. p (f x)) xs
 position_map f p [] = refl
 position_map f p (x ∷ xs) = ap (λ n. cond (not (p (f x))) (1 + n) 0) (position_map f p xs)
@@ -146,33 +151,25 @@ number_new ps p number is l =
 abbrev is_at : Node → Visited → Bool
 is_at n v = same_point n.at v.site.at
 
-all_off : (ms : List Bool) (k : ℕ) → All (λ m. m ≡ false) ms → get_or ms k false ≡ false
+all_off : (ms : List ℕ) (k : ℕ) → All (λ m. m ≡ 0) ms → get_or ms k 0 ≡ 0
 all_off [] k h = refl
-all_off (m ∷ ms) zero h = All-head (λ m. m ≡ false) m ms h
-all_off (m ∷ ms) (suc k) h = all_off ms k (All-tail (λ m. m ≡ false) m ms h)
+all_off (m ∷ ms) zero h = All-head (λ m. m ≡ 0) m ms h
+all_off (m ∷ ms) (suc k) h = all_off ms k (All-tail (λ m. m ≡ 0) m ms h)
 
-pub marked_more : (vs : List Visited) (v : Visited) → All (λ m. m ≡ false) v.marks.items → (n : Node) → is_marked (vs ++ v ∷ []) n ≡ is_marked vs n
+pub marked_more : (vs : List Visited) (v : Visited) → All (λ m. m ≡ 0) v.marks.items → (n : Node) → mark_at (vs ++ v ∷ []) n ≡ mark_at vs n
 marked_more vs v off n =
-    ap (λ o. option_map_or (mark_of n.port) o false) (find-append (is_at n) vs (v ∷ [])) ∙ go (find (is_at n) vs)
+    ap (λ o. option_map_or (mark_of n.port) o 0) (find-append (is_at n) vs (v ∷ [])) ∙ go (find (is_at n) vs)
   where
-    last : (b : Bool) → option_map_or (mark_of n.port) (cond b (Some v) None) false ≡ false
+    last : (b : Bool) → option_map_or (mark_of n.port) (cond b (Some v) None) 0 ≡ 0
     last true = all_off v.marks.items (place_in (star_of v.site) n.port) off
     last false = refl
 
-    go : (o : Option Visited) → option_map_or (mark_of n.port) (option_or o (find (is_at n) (v ∷ []))) false ≡ option_map_or (mark_of n.port) o false
+    go : (o : Option Visited) → option_map_or (mark_of n.port) (option_or o (find (is_at n) (v ∷ []))) 0 ≡ option_map_or (mark_of n.port) o 0
     go (Some w) = refl
     go None = last (is_at n v)
 
-pub marked_at : (vs : List Visited) (n : Node) (v : Visited) → slice_get vs (position_or_len (is_at n) vs) ≡ Some v → is_marked vs n ≡ mark_of n.port v
-marked_at vs n v e = ap (λ o. option_map_or (mark_of n.port) o false) (find_at (is_at n) vs ∙ e)
-
-or_false : (b : Bool) → (b || false) ≡ b
-or_false true = refl
-or_false false = refl
-
-or_true : (b : Bool) → (b || true) ≡ true
-or_true true = refl
-or_true false = refl
+pub marked_at : (vs : List Visited) (n : Node) (v : Visited) → slice_get vs (position_or_len (is_at n) vs) ≡ Some v → mark_at vs n ≡ mark_of n.port v
+marked_at vs n v e = ap (λ o. option_map_or (mark_of n.port) o 0) (find_at (is_at n) vs ∙ e)
 
 -- ports whose first entries have one place are the same
 same_place : (spots : List Spot) (q r : Port) (j : ℕ) → j < length spots → j ≡ position_or_len (λ (s : Spot). same_port s.port q) spots → j ≡ position_or_len (λ (s : Spot). same_port s.port r) spots → q ≡ r
@@ -185,9 +182,9 @@ same_place spots q r j l e f =
 
 -- one mark more is one marked node more
 pub marked_set : (vs : List Visited) (n : Node) (k : ℕ) (v w : Visited) → k ≡ position_or_len (is_at n) vs → slice_get vs k ≡ Some v → w.site ≡ v.site
-    → (j : ℕ) → j ≡ place_in (star_of v.site) n.port → j < length (star_of v.site).spots → length v.marks.items ≡ length (star_of v.site).spots → w.marks.items ≡ set v.marks.items j true
-    → (m : Node) → is_marked (set vs k w) m ≡ (is_marked vs m || same_node m n)
-marked_set vs n k v w at is site j place inside count marks m = by_point (same_point m.at n.at) refl
+    → (j : ℕ) → j ≡ place_in (star_of v.site) n.port → j < length (star_of v.site).spots → length v.marks.items ≡ length (star_of v.site).spots
+    → (x : ℕ) → w.marks.items ≡ set v.marks.items j x → (m : Node) → mark_at (set vs k w) m ≡ cond (same_node m n) x (mark_at vs m)
+marked_set vs n k v w at is site j place inside count x marks m = by_point (same_point m.at n.at) refl
   where
     here : is_at n v ≡ true
     here =
@@ -198,32 +195,31 @@ marked_set vs n k v w at is site j place inside count marks m = by_point (same_p
     point : n.at ≡ v.site.at
     point = point_same n.at v.site.at here
 
-    by_port : m.at ≡ n.at → (b : Bool) → same_port m.port n.port ≡ b → mark_of m.port w ≡ (mark_of m.port v || (b && same_point m.at n.at))
+    by_port : m.at ≡ n.at → (b : Bool) → same_port m.port n.port ≡ b → mark_of m.port w ≡ cond (b && same_point m.at n.at) x (mark_of m.port v)
     by_port same true e =
         let q : m.port ≡ n.port = port_same m.port n.port e in
-        (λ i. get_or (marks i) (place_in (star_of (site i)) (q i)) false)
-        ∙ ap (λ i. get_or (set v.marks.items j true) i false) (sym place)
-        ∙ get_or-set_same v.marks.items j true false (omega (arith, inside, count))
-        ∙ sym (or_true (mark_of m.port v)) ∙ ap (λ b. mark_of m.port v || b) (sym (point_itself n.at) ∙ ap (λ p. same_point p n.at) (sym same))
+        (λ i. get_or (marks i) (place_in (star_of (site i)) (q i)) 0)
+        ∙ ap (λ i. get_or (set v.marks.items j x) i 0) (sym place)
+        ∙ get_or-set_same v.marks.items j x 0 (omega (arith, inside, count))
+        ∙ sym (ap (λ b. cond b x (mark_of m.port v)) (ap (λ p. same_point p n.at) same ∙ point_itself n.at))
     by_port same false e =
-        (λ i. get_or (marks i) (place_in (star_of (site i)) m.port) false)
-        ∙ get_or-set_other v.marks.items j (place_in (star_of v.site) m.port) true false
+        (λ i. get_or (marks i) (place_in (star_of (site i)) m.port) 0)
+        ∙ get_or-set_other v.marks.items j (place_in (star_of v.site) m.port) x 0
         (λ f. true≢false (sym (port_itself n.port) ∙ ap (λ q. same_port q n.port) (same_place (star_of v.site).spots n.port m.port j inside place (sym f)) ∙ e))
-        ∙ sym (or_false (mark_of m.port v))
 
-    by_point : (b : Bool) → same_point m.at n.at ≡ b → is_marked (set vs k w) m ≡ (is_marked vs m || (same_port m.port n.port && same_point m.at n.at))
+    by_point : (b : Bool) → same_point m.at n.at ≡ b → mark_at (set vs k w) m ≡ cond (same_port m.port n.port && same_point m.at n.at) x (mark_at vs m)
     by_point true e =
         let p : m.at ≡ n.at = point_same m.at n.at e in
-        let at_m : k ≡ position_or_len (is_at m) vs = at ∙ ap (λ q. position_or_len (λ (x : Visited). same_point q x.site.at) vs) (sym p) in
+        let at_m : k ≡ position_or_len (is_at m) vs = at ∙ ap (λ q. position_or_len (λ (y : Visited). same_point q y.site.at) vs) (sym p) in
         let here_m : is_at m w ≡ true = (λ i. same_point (p i) (site i).at) ∙ here in
-        ap (λ o. option_map_or (mark_of m.port) o false) (find-set (is_at m) vs k w at_m (slice_get_within vs k v is) here_m)
+        ap (λ o. option_map_or (mark_of m.port) o 0) (find-set (is_at m) vs k w at_m (slice_get_within vs k v is) here_m)
         ∙ by_port p (same_port m.port n.port) refl
-        ∙ ap (λ b. b || (same_port m.port n.port && same_point m.at n.at)) (sym (marked_at vs m v (ap (slice_get vs) (sym at_m) ∙ is)))
+        ∙ ap (cond (same_port m.port n.port && same_point m.at n.at) x) (sym (marked_at vs m v (ap (slice_get vs) (sym at_m) ∙ is)))
     by_point false e =
         let away : is_at m v ≡ false = ap (same_point m.at) (sym point) ∙ e in
-        ap (λ o. option_map_or (mark_of m.port) o false)
+        ap (λ o. option_map_or (mark_of m.port) o 0)
         (find_past (is_at m) vs k w v (ap (is_at m) (get_or_from_slice_get vs k v v is) ∙ away) (ap (λ s. same_point m.at s.at) site ∙ away))
-        ∙ sym (ap (λ b. is_marked vs m || (same_port m.port n.port && b)) e ∙ ap (λ b. is_marked vs m || b) (and_false (same_port m.port n.port)) ∙ or_false (is_marked vs m))
+        ∙ sym (ap (λ b. cond b x (mark_at vs m)) (ap (λ b. same_port m.port n.port && b) e ∙ and_false (same_port m.port n.port)))
       where
         and_false : (b : Bool) → (b && false) ≡ false
         and_false true = refl

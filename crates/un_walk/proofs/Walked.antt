@@ -1,17 +1,17 @@
 -- What holds of the nodes that a walk has found, of which some are done.
-use Rattle.std.proofs.Common.{◌≡◌, ℕ, zero, suc, ◌≤◌, Bool, true, List, [], ◌∷◌, ◌++◌, length, take, slice_get, IsPermutation, Some, sym, ap, subst, ◌∙◌, inl, inr, arith}
+use Rattle.std.proofs.Common.{◌≡◌, ℕ, zero, suc, ◌≤◌, Bool, true, List, [], ◌∷◌, ◌++◌, length, take, slice_get, Some, sym, ap, subst, ◌∙◌, inl, inr, arith}
 use Rattle.std.specs.List.{list_any}
-use Rattle.std.specs.List.Sorted.{IsStrictlySortedBy}
-use Rattle.std.proofs.lemmas.List.Sorted.{Contains-permutation, IsPermutation-sym}
 use Rattle.un_defs.specs.declared.port.Node.{Node}
-use Rattle.un_defs.specs.Orders.{same_node, node_cmp}
+use Rattle.un_defs.specs.Orders.{same_node, node_cmp, rising}
 use Rattle.un_defs.specs.Reach.{Walk, IsReach}
-use Rattle.un_defs.proofs.Rising.{Among}
+use Rattle.un_defs.proofs.Rising.{Among, sorted-rising}
 use Rattle.un_defs.proofs.LinkCases.{some_same}
 use Rattle.un_defs.proofs.Members.{among_left, among_cases, contains_from_among, among_from_contains, list_any_from_among, among_from_list_any}
 use Rattle.un_defs.proofs.Unique.{node_same, node_itself}
 use Rattle.un_defs.proofs.Walking.{walk_from_start, walk_on, is_reach}
 use Rattle.un_walk.specs.Growth.{Grows}
+use Rattle.un_walk.proofs.Once.{node_in_order, node_from_order}
+use Rattle.un_defs.proofs.OrderLaws.{node_total}
 
 -- the first k of the nodes and the one after them
 pub take_at : (ns more : List Node) (k : ℕ) (n : Node) → slice_get ns k ≡ Some n → take (suc k) (ns ++ more) ≡ take k ns ++ n ∷ []
@@ -78,13 +78,7 @@ module _ (step : Node → Node → Bool) (starts : List Node) where
       done : take (suc k) new ≡ take k ns ++ n ∷ []
       done = ap (take (suc k)) g.is ∙ take_at ns g.more k n at
 
-  pub walked_end : (ns out : List Node) (k : ℕ) → Walked step starts ns k → length ns ≤ k → IsPermutation ns out → IsStrictlySortedBy node_cmp out → IsReach step starts out
-  walked_end ns out k w all moved sorted =
-      is_reach step starts out sorted (λ n h. w.sound n (back n h)) (λ n h. forth n (w.begin n h))
-      (λ n m h e. forth m (w.closed n m (among_take ns k all n (back n h)) e))
-    where
-      forth : (n : Node) → Among ns n → Among out n
-      forth n h = among_from_contains out n (Contains-permutation ns out n moved (contains_from_among ns n h))
-
-      back : (n : Node) → Among out n → Among ns n
-      back n h = among_from_contains ns n (Contains-permutation out ns n (IsPermutation-sym ns out moved) (contains_from_among out n h))
+  pub walked_in_order : (ns : List Node) (k : ℕ) → Walked step starts ns k → length ns ≤ k → IsReach step starts (rising node_cmp ns)
+  walked_in_order ns k w all =
+      is_reach step starts (rising node_cmp ns) (sorted-rising node_total ns) (λ n h. w.sound n (node_from_order ns n h)) (λ n h. node_in_order ns n (w.begin n h))
+      (λ n m h e. node_in_order ns m (w.closed n m (among_take ns k all n (node_from_order ns n h)) e))

@@ -1,5 +1,5 @@
 -- What a walk has found over a ground: nodes, by marks on the entries of stars.
-use Rattle.std.specs.Prelude.{◌≡◌, ℕ, ◌+◌, ◌<◌, ◌≤◌, Bool, true, false, List, [], ◌∷◌, ◌++◌, map, length, get_or, set, slice_get, find, All, IsSome, Some, None, if◌then◌else◌}
+use Rattle.std.specs.Prelude.{◌≡◌, ℕ, zero, suc, ◌+◌, ◌<◌, ◌≤◌, false, List, [], ◌∷◌, ◌++◌, map, length, get_or, set, slice_get, find, All, IsSome, Some, None, if◌then◌else◌}
 use Rattle.std.specs.List.{IsDistinct, list_any, position_or_len}
 use Rattle.std.specs.Option.{option_map_or}
 use Rattle.un_geom.specs.declared.point.Point.{Point}
@@ -41,13 +41,18 @@ place_in star q = position_or_len (λ s. same_port s.port q) star.spots
 abbrev pub IsPlaceIn : Star → Port → ℕ → Type 0
 IsPlaceIn star q place = (place ≡ place_in star q) × (place < length star.spots)
 
--- the mark of the port's entry
-abbrev pub mark_of : Port → Visited → Bool
-mark_of q v = get_or v.marks.items (place_in (star_of v.site) q) false
+-- the mark of the port's entry, 0 where there is none
+abbrev pub mark_of : Port → Visited → ℕ
+mark_of q v = get_or v.marks.items (place_in (star_of v.site) q) 0
 
--- the mark of the node's entry at its point
-abbrev pub is_marked : List Visited → Node → Bool
-is_marked vs n = option_map_or (mark_of n.port) (find (λ v. same_point n.at v.site.at) vs) false
+-- the mark of the node's entry at its point, 0 where there is none
+abbrev pub mark_at : List Visited → Node → ℕ
+mark_at vs n = option_map_or (mark_of n.port) (find (λ v. same_point n.at v.site.at) vs) 0
+
+-- the mark is 0 where the list has not the node, and else its place and 1
+abbrev pub IsMark : List Node → Node → ℕ → Type 0
+IsMark ns n zero = has_node ns n ≡ false
+IsMark ns n (suc k) = slice_get ns k ≡ Some n
 
 -- what was seen, and its nodes
 abbrev pub seens_of : List Item → List Seen
@@ -64,25 +69,25 @@ pub record IsUnmarked (G : Ground) (p : Point) (v : Visited) : Type 0 where
   pub at : v.site.at ≡ p
   pub site : IsSite G v.site
   pub count : length v.marks.items ≡ length (star_of v.site).spots
-  pub none : All (λ mark. mark ≡ false) v.marks.items
+  pub none : All (λ mark. mark ≡ 0) v.marks.items
 
 -- there is a mark at the place of the star with the number
 abbrev pub IsInside : List Visited → ℕ → ℕ → Type 0
 IsInside vs number place = (v : Visited) × (slice_get vs number ≡ Some v) × (place < length v.marks.items)
 
--- the mark there goes on, which was off
-pub record IsMarkedAt (old new : List Visited) (number place : ℕ) : Type 0 where
+-- the mark there was 0, and is this one
+pub record IsMarkedAt (old new : List Visited) (number place mark : ℕ) : Type 0 where
   pub before : Visited
   pub after : Visited
   pub at : slice_get old number ≡ Some before
   pub is : new ≡ set old number after
   pub site : after.site ≡ before.site
-  pub marks : after.marks.items ≡ set before.marks.items place true
-  pub off : get_or before.marks.items place false ≡ false
+  pub marks : after.marks.items ≡ set before.marks.items place mark
+  pub off : get_or before.marks.items place 0 ≡ 0
 
--- the mark there is on
-abbrev pub WasMarkedAt : List Visited → ℕ → ℕ → Type 0
-WasMarkedAt vs number place = (v : Visited) × (slice_get vs number ≡ Some v) × (get_or v.marks.items place false ≡ true)
+-- the mark there is this one
+abbrev pub WasMarkedAt : List Visited → ℕ → ℕ → ℕ → Type 0
+WasMarkedAt vs number place mark = (v : Visited) × (slice_get vs number ≡ Some v) × (get_or v.marks.items place 0 ≡ mark)
 
 -- an item to come: a node with its entry, the number of its point and the place that it was found from
 pub record IsItemOver (G : Ground) (f : Found) (i : Item) : Type 0 where
@@ -90,8 +95,8 @@ pub record IsItemOver (G : Ground) (f : Found) (i : Item) : Type 0 where
   pub entry : spot_of i.seen ≡ entry G i.seen.node
   pub from : i.from < length f.items.items + 1
 
--- the nodes are distinct, each with its entry and the number of its point; of the nodes with an entry exactly these are marked, and of the
--- others exactly these are strays
+-- the nodes are distinct, each with its entry and the number of its point; of the nodes with an entry exactly these are marked, with their
+-- places, and of the others exactly these are strays
 pub record IsFoundOver (G : Ground) (f : Found) : Type 0 where
   pub points : f.points ≡ map (λ v. v.site.at) f.visited.items
   pub sites : All (λ v. IsSite G v.site) f.visited.items
@@ -100,5 +105,5 @@ pub record IsFoundOver (G : Ground) (f : Found) : Type 0 where
   pub origins : All (λ i. i.from < length f.items.items) f.items.items
   pub entries : HaveEntries G (seens f)
   pub distinct : IsDistinct same_node (nodes f)
-  pub marked : (n : Node) → IsSome (entry G n) → is_marked f.visited.items n ≡ has_node (nodes f) n
+  pub marked : (n : Node) → IsSome (entry G n) → IsMark (nodes f) n (mark_at f.visited.items n)
   pub strays : (n : Node) → entry G n ≡ None → has_node f.strays n ≡ has_node (nodes f) n

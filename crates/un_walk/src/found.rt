@@ -1,6 +1,6 @@
 //! The nodes that a walk has found, each once, in the order in which they were found.
 
-ghost use Rattle.std.specs.Prelude.{◌≡◌, ◌<◌, ◌≤◌, ◌+◌, ◌-◌, ◌⊎◌, [], true, false, length, slice_get, Some, None, All, IsTrue, IfOk, OnOk};
+ghost use Rattle.std.specs.Prelude.{◌≡◌, ◌<◌, ◌≤◌, ◌+◌, ◌-◌, ◌⊎◌, ℕ, [], true, false, length, slice_get, Some, None, All, IsTrue, IsSome, IfSome, IfNone, IfOk, OnOk};
 ghost use Rattle.un_defs.specs.Ground.{Ground, entry};
 ghost use Rattle.un_defs.specs.Orders.{same_node};
 ghost use Rattle.un_walk.specs.Growth.{has_node, with_node};
@@ -19,10 +19,10 @@ use un_defs::{Ground, Node};
 use un_geom::Point;
 use un_steps::Steps;
 
-/// A mark for each entry of a star, by its place. Few stars have more than eight entries.
-pub(crate) type Marks = SmallVec<bool, 8>;
+/// A mark for each entry of a star: 0, or where its node was found, the node's place in the list and 1. Few stars have more than eight entries.
+pub(crate) type Marks = SmallVec<usize, 8>;
 
-/// What the ground has at a point, and whether the node of each entry there was found.
+/// What the ground has at a point, and which nodes there were found.
 #[derive(Drop)]
 pub(crate) struct Visited<'a> {
     pub(crate) site: Site<'a>,
@@ -37,9 +37,9 @@ pub(crate) struct Item<'a> {
     pub(crate) from: usize,
 }
 
-/// A list of distinct nodes that knows at once whether it has a node.
+/// A list of distinct nodes that knows the places of its nodes.
 #[derive(Drop)]
-pub(crate) struct Found<'a> {
+pub struct Found<'a> {
     pub(crate) points: Points,
     /// By the numbers of the points.
     pub(crate) visited: Vec<Visited<'a>>,
@@ -66,20 +66,21 @@ fn unmarked<'a, G: Ground, L>(
     ensures never_falls { steps.old ≤ steps.new }
 {
     let site = looked_up(over, at, steps);
-    let marks = SmallVec::from_elem(alloc, false, site.entry_count())?;
+    let marks = SmallVec::from_elem(alloc, 0, site.entry_count())?;
     Ok(Visited { site, marks })
 }
 
-// Marks the entry at a place of a star. Whether it was not marked before.
-fn mark(visited: &mut [Visited], number: usize, place: usize) -> bool
+// Puts a mark at the entry of a star, unless it has one. Whether it had none.
+fn put_mark(visited: &mut [Visited], number: usize, place: usize, mark: usize) -> bool
     requires { IsInside visited.old number place }
-    ensures new { result ≡ true → IsMarkedAt visited.old visited.new number place }
-    ensures old { result ≡ false → (visited.new ≡ visited.old) × WasMarkedAt visited.old number place }
+    ensures new { result ≡ true → IsMarkedAt visited.old visited.new number place mark }
+    ensures old { result ≡ false → (visited.new ≡ visited.old)
+        × ((k : ℕ) × WasMarkedAt visited.old number place (k + 1)) }
 {
-    if visited[number].marks[place] {
+    if visited[number].marks[place] != 0 {
         return false;
     }
-    visited[number].marks[place] = true;
+    visited[number].marks[place] = mark;
     true
 }
 
@@ -117,7 +118,7 @@ impl<'a> Found<'a> {
     }
 
     /// The nodes with their entries, in the order in which they were found.
-    pub(crate) fn seen(&self, alloc: Global) -> Result<Vec<Seen<'a>>, AllocError>
+    pub fn seen(&self, alloc: Global) -> Result<Vec<Seen<'a>>, AllocError>
         ensures { IfOk result (λ seen. seen.items ≡ seens self.now) }
     {
         self.items.iter().map(|item| item.seen).collect(alloc)
@@ -183,6 +184,32 @@ impl<'a> Found<'a> {
         }
     }
 
+    // The number of a point, if it has one. A node at the place `from` that stands there tells it.
+    fn known_number(&self, from: usize, at: Point) -> Option<usize>
+        requires { All (λ i. IsNumberOf self.now.points i.seen.node.at i.number) self.now.items.items }
+        ensures some { IfSome result (IsNumberOf self.now.points at) }
+        ensures none { IfNone result (IsWithoutNumber self.now.points at) }
+    {
+        match self.items.get(from) {
+            Some(item) if is_same_point(item.seen.node.at, at) => Some(item.number),
+            _ => self.points.find(at),
+        }
+    }
+
+    /// The place of a node that has an entry, if it was found. It is sought from the node at the place `from`, which mostly stands at the same
+    /// point. The ground is there for the contract alone.
+    pub fn place_from<G: Ground>(&self, _over: &G, from: usize, node: Node) -> Option<usize>
+        requires { IsFoundOver (G.stars_and_areas _over.now) self.now }
+        ensures some { IfSome result (λ place. slice_get (nodes self.now) place ≡ Some node) }
+        ensures none { IfNone result (IsSome (entry (G.stars_and_areas _over.now) node)
+            → has_node (nodes self.now) node ≡ false) }
+    {
+        let number = self.known_number(from, node.at)?;
+        let visited = &self.visited[number];
+        let place = visited.site.place(node.port)?;
+        visited.marks[place].checked_sub(1)
+    }
+
     // Adds a node with the entry at the place, unless it is marked. The ground is there for the contract alone.
     fn add_marked<G: Ground>(
         &mut self,
@@ -196,7 +223,8 @@ impl<'a> Found<'a> {
         ensures over { OnOk result (IsFoundOver (G.stars_and_areas _over.now) self.new) }
         ensures nodes { OnOk result (nodes self.new ≡ with_node (nodes self.old) item.entry.seen.node) }
     {
-        if mark(self.visited.as_mut_slice(), item.number, place) {
+        let mark = self.items.len() + 1;
+        if put_mark(self.visited.as_mut_slice(), item.number, place, mark) {
             self.items.push(item)?;
         }
         Ok(())

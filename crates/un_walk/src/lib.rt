@@ -11,24 +11,25 @@
 //!
 //! # How it is found
 //!
-//! [`walk::reach_seen`] keeps the nodes found so far in a list ([`found::Found`]), which has each once and in the order of finding: first the
+//! [`walk::reach_found`] keeps the nodes found so far in a list ([`found::Found`]), which has each once and in the order of finding: first the
 //! starts, then each further node as it is found. It takes the nodes in this order. If a walk may go on from a node, it adds what the node's
 //! links lead to, unless it is there ([`walk::visit`], [`traversal::follow`]).
 //!
 //! Points at which a node was found have numbers ([`points::Points`]), and for each the list keeps what the ground has there, the star and
-//! the least dirty area ([`site::Site`]), and a mark for each entry of the star. Whether a node is in the list is told by the mark of its
-//! entry; the few nodes without an entry are kept in a set of their own ([`strays::Strays`]). Most links stay at a point, and lead to a node
-//! whose point's number is known. Of the others, most lead to where their node was found from: the list remembers that place for each node,
-//! and such a link needs no look-up at all.
+//! the least dirty area ([`site::Site`]), and a mark for each entry of the star: the place of its node in the list, if it was found. So the
+//! mark of its entry tells whether a node is in the list, and where; the few nodes without an entry are kept in a set of their own
+//! ([`strays::Strays`]). Most links stay at a point, and lead to a node whose point's number is known. Of the others, most lead to where their
+//! node was found from: the list remembers that place for each node, and such a link needs no look-up at all.
 //!
 //! It is done once it has taken the last node. The dirt is kept on the way: the least so far, by area, then port ([`dirt::dirt_after`]). So
-//! are the entries of the nodes, which callers need for their results. [`walk::reach`] is the same without the entries.
+//! are the entries of the nodes, which callers need for their results. [`walk::reach_found`] answers the list itself, for callers that ask for
+//! the places of nodes; [`walk::reach_seen`] the nodes with their entries, sorted, and [`walk::reach`] the nodes alone.
 //!
 //! # Why that is enough
 //!
 //! Three facts hold before each node is taken. Each node of the list is reached, since it is a start or a link leads to it from a node of the
 //! list that is open. Each start is in the list. Each node to which a walk goes on from a node that was taken is in the list. When all have
-//! been taken, the third fact says that no walk leaves the list, so it has exactly the reached nodes. At the end they are sorted.
+//! been taken, the third fact says that no walk leaves the list, so it has exactly the reached nodes.
 //!
 //! A set of the ground's nodes is not known to be finite, but a list in memory has fewer than 2^64 nodes, so it comes to an end, or to the
 //! end of memory.
@@ -41,12 +42,12 @@
 //! One look-up of an area and one of a star for each point at which nodes are reached, and for each link of an open node that the mode takes
 //! a search among the entries of the star to which it leads, save those back to the node from which it was found. A link to another point
 //! takes one look-up in a hash table of points before. Only where a tier is asked for and a path leads to another point is one more star
-//! looked up. Sorting the nodes takes n log n comparisons.
+//! looked up. Sorting the nodes, where that is asked for, takes n log n comparisons.
 #![tactic(auto)]
 
 mod dirt;
 mod entries;
-mod found;
+pub mod found;
 pub mod hasher;
 mod points;
 pub mod seen;
@@ -55,5 +56,6 @@ mod strays;
 mod traversal;
 pub mod walk;
 
+pub use found::Found;
 pub use seen::Seen;
-pub use walk::{Reached, ReachedSeen, reach, reach_seen};
+pub use walk::{Reached, ReachedFound, ReachedSeen, reach, reach_found, reach_seen};

@@ -3,7 +3,7 @@
 ghost use Rattle.std.specs.Prelude.{◌≡◌, ◌<◌, ◌≤◌, ◌+◌, ◌&&◌, [], length, IfOk, OnOk};
 ghost use Rattle.std.specs.List.{list_any};
 ghost use Rattle.un_defs.specs.Ground.{entry};
-ghost use Rattle.un_defs.specs.Orders.{same_node};
+ghost use Rattle.un_defs.specs.Orders.{same_node, node_cmp, rising};
 ghost use Rattle.un_defs.specs.Reach.{IsReach, leads, dirt, meets_condition};
 ghost use Rattle.un_walk.specs.Found.{nodes, IsFoundOver};
 ghost use Rattle.un_walk.specs.Growth.{Grows};
@@ -25,6 +25,13 @@ use un_steps::Steps;
 #[derive(Drop)]
 pub struct Reached {
     pub nodes: Nodes,
+    pub dirt: Option<Dirt>,
+}
+
+/// The nodes that walks reach, in the order in which they were found, and the dirt that they meet.
+#[derive(Drop)]
+pub struct ReachedFound<'a> {
+    pub found: Found<'a>,
     pub dirt: Option<Dirt>,
 }
 
@@ -143,6 +150,45 @@ fn visit<'a, G: Ground, L>(
     )
 }
 
+/// What walks from the starts reach, in the order in which it was found, and the dirt that they meet.
+///
+/// `steps` counts the stars that are looked up. It answers an error only for want of memory; the count may then have risen.
+pub fn reach_found<'a, G: Ground, L>(
+    alloc: Global,
+    over: &'a G,
+    starts: &[Node],
+    mode: Mode,
+    barriers: &Barriers,
+    steps: &mut Steps<L>,
+) -> Result<ReachedFound<'a>, AllocError>
+    // In order, the nodes are exactly those in which a walk ends.
+    ensures nodes { IfOk result (λ r. IsReach (leads (G.stars_and_areas over.now) barriers.now mode) starts.now
+        (rising node_cmp (nodes r.found))) }
+    ensures over { IfOk result (λ r. IsFoundOver (G.stars_and_areas over.now) r.found) }
+    // The least area that covers one of them, and the least port of those that it covers.
+    ensures dirt { IfOk result (λ r. r.dirt
+        ≡ dirt (G.stars_and_areas over.now) (rising node_cmp (nodes r.found))) }
+
+    // No more stars are looked up than nodes are reached.
+    ensures ticks { IsLookedUpOnce (G.stars_and_areas over.now) barriers.now
+        → IfOk result (λ r. steps.new ≤ steps.old + length (rising node_cmp (nodes r.found))) }
+    ensures never_falls { steps.old ≤ steps.new }
+{
+    let mut found = Found::new(alloc);
+    add_starts(alloc, over, starts, &mut found, steps)?;
+    let mut least = None;
+    let mut next = 0;
+    while next < found.len() {
+        let (one, site) = found.at(over, next);
+        least = dirt_after(least, site.area, one.node.port);
+        visit(
+            alloc, over, &one, next, &site, mode, barriers, &mut found, steps,
+        )?;
+        next += 1;
+    }
+    Ok(ReachedFound { found, dirt: least })
+}
+
 /// What walks from the starts reach, with the entries, and the dirt that they meet.
 ///
 /// `steps` counts the stars that are looked up. It answers an error only for want of memory; the count may then have risen.
@@ -166,21 +212,13 @@ pub fn reach_seen<'a, G: Ground, L>(
         → IfOk result (λ r. steps.new ≤ steps.old + length r.seen.items) }
     ensures never_falls { steps.old ≤ steps.new }
 {
-    let mut found = Found::new(alloc);
-    add_starts(alloc, over, starts, &mut found, steps)?;
-    let mut least = None;
-    let mut next = 0;
-    while next < found.len() {
-        let (one, site) = found.at(over, next);
-        least = dirt_after(least, site.area, one.node.port);
-        visit(
-            alloc, over, &one, next, &site, mode, barriers, &mut found, steps,
-        )?;
-        next += 1;
-    }
-    let mut seen = found.seen(alloc)?;
+    let reached = reach_found(alloc, over, starts, mode, barriers, steps)?;
+    let mut seen = reached.found.seen(alloc)?;
     sort_by_node(&mut seen);
-    Ok(ReachedSeen { seen, dirt: least })
+    Ok(ReachedSeen {
+        seen,
+        dirt: reached.dirt,
+    })
 }
 
 /// What walks from the starts reach, and the dirt that they meet.

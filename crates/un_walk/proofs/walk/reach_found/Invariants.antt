@@ -4,7 +4,7 @@ use Rattle.un_walk.specs.Found.{nodes, IsFoundOver}
 use Rattle.un_walk.specs.Ticks.{IsLookedUpOnce}
 use Rattle.un_walk.proofs.Walked.{Walked}
 use Rattle.un_walk.proofs.DirtMet.{IsDirtOf}
-use Rattle.un_walk.proofs.walk.reach_seen.Given as goal
+use Rattle.un_walk.proofs.walk.reach_found.Given as goal
 
 -- the nodes before the next are done: what they lead to is found, their dirt is known, the count has not fallen, and no more stars were
 -- looked up than nodes are found
