@@ -1,14 +1,12 @@
--- The orders of nodes and of names that the code compares by are those of the definitions.
-use Rattle.std.proofs.Common.{◌≡◌, true, Ordering, Less, Equal, Greater, nat_cmp, int_cmp, refl, ap, ◌∙◌}
+-- The order of names that the code compares by is that of the definitions.
+use Rattle.std.proofs.Common.{◌≡◌, true, Ordering, Less, Equal, Greater, nat_cmp, refl, ap, ◌∙◌}
 use Rattle.std.specs.Ordering.{ordering_then, is_eq, eq_by_cmp}
-use Rattle.un_defs.specs.contracts.port.NodeOrd.TheImpl as by_node
 use Rattle.un_defs.specs.contracts.link.LinkNameOrd.TheImpl as by_name
 use Rattle.un_defs.specs.contracts.link.LinkNameOrd.TheImpl.Laws.{matches_eq-law}
 use Rattle.un_defs.specs.contracts.link.LinkNamePartialEq.TheImpl as equal
-use Rattle.un_defs.specs.declared.port.Node.{Node}
 use Rattle.un_defs.specs.declared.link.LinkName.{LinkName}
 use Rattle.un_defs.specs.declared.link.LinkName.TheVariants.{Seg, Path, Coin, Assoc}
-use Rattle.un_defs.specs.Orders.{node_cmp, name_cmp}
+use Rattle.un_defs.specs.Orders.{name_cmp}
 use Rattle.un_defs.proofs.OrderLaws.{name_ties}
 
 -- nothing after an order changes it
@@ -16,14 +14,6 @@ pub at_end : (k : Ordering) → k ≡ ordering_then k Equal
 at_end Less = refl
 at_end Equal = refl
 at_end Greater = refl
-
-node_alike : (n m : Node) → by_node.ghosts.cmp n m ≡ node_cmp n m
-node_alike n m = λ i. ordering_then
-    (ordering_then (nat_cmp n.port.feature m.port.feature) (at_end (nat_cmp n.port.number m.port.number) i))
-    (ordering_then (int_cmp n.at.x m.at.x) (ordering_then (int_cmp n.at.y m.at.y) (at_end (int_cmp n.at.z m.at.z) i)))
-
-pub nodes_alike : by_node.ghosts.cmp ≡ node_cmp
-nodes_alike = λ i n m. node_alike n m i
 
 name_alike : (x y : LinkName) → by_name.ghosts.cmp x y ≡ name_cmp x y
 name_alike (Seg a b) (Seg c d) = λ i. ordering_then (nat_cmp a c) (at_end (nat_cmp b d) i)

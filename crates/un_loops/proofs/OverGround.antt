@@ -1,10 +1,8 @@
 -- The links between the places of open nodes are those by which walks go over the ground, and have its loops.
 use Rattle.std.proofs.Common.{◌≡◌, ◌≢◌, ℕ, suc, ◌==◌, ◌↔◌, inl, inr, Bool, true, false, not, ◌&&◌, ◌||◌, List, [], ◌∷◌, map, Option, None, Some, is_some, refl, sym, ap, subst, ◌∙◌, eqb-true, eq-eqb, true≢false}
 use Rattle.std.specs.Prelude.{slice_get, Contains}
-use Rattle.std.specs.List.{list_any}
-use Rattle.std.specs.List.Sorted.{IsStrictlySortedBy}
+use Rattle.std.specs.List.{list_any, IsDistinct}
 use Rattle.std.specs.Option.{option_map, option_map_or}
-use Rattle.std.proofs.lemmas.List.Kept.{IsStrictlySortedBy-filter}
 use Rattle.std.proofs.lemmas.Option.{slice_get-map}
 use Rattle.un_defs.specs.declared.port.Node.{Node}
 use Rattle.un_defs.specs.declared.link.LinkName.{LinkName}
@@ -13,13 +11,14 @@ use Rattle.un_defs.specs.declared.link.Tie.{Tie}
 use Rattle.un_defs.specs.declared.star.Spot.{Spot}
 use Rattle.un_defs.specs.declared.walk.Mode.TheVariants.{Any}
 use Rattle.un_defs.specs.declared.walk.Barriers.{Barriers}
-use Rattle.un_defs.specs.Orders.{node_cmp, same_node}
+use Rattle.un_defs.specs.Orders.{node_cmp, same_node, rising}
 use Rattle.un_defs.specs.Ground.{Ground, entry, ties, is_dirty}
 use Rattle.un_defs.specs.Linked.{IsTied, AreLinked}
 use Rattle.un_defs.specs.Reach.{Follow, last_node, IsReach, leads, goes_by, is_open, is_barrier, is_path, is_shut, controls}
 use Rattle.un_defs.proofs.LinkCases.{some_same, both_true, true_both}
 use Rattle.un_defs.proofs.Members.{contains_from_among, among_from_contains, among_from-filter, among-filter, list_any_from_among, among_from_list_any}
-use Rattle.un_defs.proofs.Rising.{Among}
+use Rattle.un_defs.proofs.OrderLaws.{node_ties}
+use Rattle.un_defs.proofs.Rising.{Among, among-rising, among_from-rising}
 use Rattle.un_defs.proofs.Unique.{node_same, node_itself}
 use Rattle.un_defs.proofs.Walking.{walk_on}
 use Rattle.un_walk.proofs.Walked.{among_at}
@@ -29,7 +28,7 @@ use Rattle.un_loops.specs.Loops.{is_named, goes_beside, leads_beside, IsLoop}
 use Rattle.un_loops.specs.Named.{IsNamedWalk, IsOnLoop, AreMutual, HaveOnePair}
 use Rattle.un_loops.specs.Network.{nodes_of, entries_of, is_passable, AreOpenNodes, IsPlaceOf, has_controller, shuts, IsLinkedAt, AreWellLinked}
 use Rattle.un_loops.proofs.Marking.{name_of}
-use Rattle.un_loops.proofs.Placing.{one_place}
+use Rattle.un_loops.proofs.Placing.{distinct_filter, one_place}
 
 -- ---- tests of names
 
@@ -84,13 +83,22 @@ has_entry G n t h = go (entry G n) refl
     go (Some s) e = (s, e)
     go None e = absurd (among_from_contains [] t (subst (λ o. Contains (option_map_or (λ s. s.ties) o []) t) e h))
 
-module _ (G : Ground) (B : Barriers) (starts reached : List Node) (reach : IsReach (leads G B Any) starts reached)
-    (clean : (n : Node) → Contains reached n → is_dirty G n.at ≡ false) (linked : AreLinked G reached) (nodes : List OpenNode) (are : AreOpenNodes G B reached nodes) where
+-- a list of nodes has the same members as in rising order
+pub among_rising : (found : List Node) (n : Node) → Among found n → Among (rising node_cmp found) n
+among_rising found = among-rising node_cmp found (λ x y _ _ e. node_ties x y e)
+
+module _ (G : Ground) (B : Barriers) (starts found : List Node) (reach : IsReach (leads G B Any) starts (rising node_cmp found))
+    (clean : (n : Node) → Contains (rising node_cmp found) n → is_dirty G n.at ≡ false) (linked : AreLinked G (rising node_cmp found))
+    (apart : IsDistinct same_node found) (nodes : List OpenNode) (are : AreOpenNodes G B found nodes) where
   abbrev joined : LinkName → ℕ → ℕ → Type 0
   joined = IsLinkedAt B.tier nodes
 
-  pub sorted : IsStrictlySortedBy node_cmp (nodes_of nodes)
-  sorted = subst (IsStrictlySortedBy node_cmp) (sym are.are) (IsStrictlySortedBy-filter node_cmp (is_passable G B) reached reach.rising)
+  -- the nodes found, rising
+  abbrev reached : List Node
+  reached = rising node_cmp found
+
+  distinct : IsDistinct same_node (nodes_of nodes)
+  distinct = subst (IsDistinct same_node) (sym are.are) (distinct_filter (is_passable G B) found apart)
 
   -- what the node at a place has
   record Stands (o : OpenNode) : Type 0 where
@@ -108,9 +116,9 @@ module _ (G : Ground) (B : Barriers) (starts reached : List Node) (reach : IsRea
   stands_at : (i : ℕ) (o : OpenNode) → slice_get nodes i ≡ Some o → Stands o
   stands_at i o at =
       let node_at : slice_get (nodes_of nodes) i ≡ Some o.node = slice_get-map (λ (x : OpenNode). x.node) nodes i ∙ ap (option_map (λ (x : OpenNode). x.node)) at in
-      let kept = among_from-filter (is_passable G B) reached o.node (subst (λ l. Among l o.node) are.are (among_at (nodes_of nodes) i o.node node_at)) in
+      let kept = among_from-filter (is_passable G B) found o.node (subst (λ l. Among l o.node) are.are (among_at (nodes_of nodes) i o.node node_at)) in
       let tests = both_true (not (is_barrier G B o.node)) (is_some (entry G o.node)) kept.1 in
-      let among : Contains reached o.node = contains_from_among reached o.node kept.0 in
+      let among : Contains reached o.node = contains_from_among reached o.node (among_rising found o.node kept.0) in
       let entry_at : slice_get (entries_of nodes) i ≡ Some (Some o.spot.now) = slice_get-map (λ (x : OpenNode). Some x.spot.now) nodes i ∙ ap (option_map (λ (x : OpenNode). Some x.spot.now)) at in
       let its_entry : slice_get (map (entry G) (nodes_of nodes)) i ≡ Some (entry G o.node) = slice_get-map (entry G) (nodes_of nodes) i ∙ ap (option_map (entry G)) node_at in
       record {
@@ -126,7 +134,7 @@ module _ (G : Ground) (B : Barriers) (starts reached : List Node) (reach : IsRea
   has_place : (n : Node) (s : Spot) → Contains reached n → is_open G B n ≡ true → entry G n ≡ Some s → (i : ℕ) × IsPlaceOf nodes n i
   has_place n s h opened known =
       place_from nodes n (subst (λ l. Among l n) (sym are.are)
-      (among-filter (is_passable G B) reached n (among_from_contains reached n h) (true_both (not (is_barrier G B n)) (is_some (entry G n)) (not_barrier n opened) (ap is_some known))))
+      (among-filter (is_passable G B) found n (among_from-rising node_cmp found n (among_from_contains reached n h)) (true_both (not (is_barrier G B n)) (is_some (entry G n)) (not_barrier n opened) (ap is_some known))))
 
   ties_are : (o : OpenNode) → Stands o → ties G o.node ≡ o.spot.now.ties
   ties_are o h = ap (λ e. option_map_or (λ (s : Spot). s.ties) e []) h.known
@@ -213,8 +221,8 @@ module _ (G : Ground) (B : Barriers) (starts reached : List Node) (reach : IsRea
       (stands_at i g.one g.at_one).among (stands_at j g.other g.at_other).among (stands_at k h.one h.at_one).among (stands_at l h.other h.at_other).among
       g.tied h.tied (g.named ∙ sym h.named) in
       elim pair [
-        | inl e ↦ inl (one_place nodes sorted h.one.node i k (g.one, g.at_one, e.0) (h.one, h.at_one, refl), one_place nodes sorted h.other.node j l (g.other, g.at_other, e.1) (h.other, h.at_other, refl))
-        | inr e ↦ inr (one_place nodes sorted h.other.node i l (g.one, g.at_one, e.0) (h.other, h.at_other, refl), one_place nodes sorted h.one.node j k (g.other, g.at_other, e.1) (h.one, h.at_one, refl))
+        | inl e ↦ inl (one_place nodes distinct h.one.node i k (g.one, g.at_one, e.0) (h.one, h.at_one, refl), one_place nodes distinct h.other.node j l (g.other, g.at_other, e.1) (h.other, h.at_other, refl))
+        | inr e ↦ inr (one_place nodes distinct h.other.node i l (g.one, g.at_one, e.0) (h.other, h.at_other, refl), one_place nodes distinct h.one.node j k (g.other, g.at_other, e.1) (h.one, h.at_one, refl))
       ]
 
   pub well_linked : AreWellLinked B.tier nodes
@@ -340,6 +348,6 @@ module _ (G : Ground) (B : Barriers) (starts reached : List Node) (reach : IsRea
         let follows : Follow (leads_beside G B s) n loop.walk.rest = subst (λ k. Follow (leads_beside G B s) k loop.walk.rest) begins loop.walk.follows in
         let ends : last_node n loop.walk.rest ≡ t.to = ap (λ k. last_node k loop.walk.rest) (sym begins) ∙ loop.walk.ends in
         let (k, last, way) = walk_to s n loop.walk.rest i place follows in
-        let same : k ≡ j = one_place nodes sorted t.to k j (subst (λ m. IsPlaceOf nodes m k) ends last) end_place in
+        let same : k ≡ j = one_place nodes distinct t.to k j (subst (λ m. IsPlaceOf nodes m k) ends last) end_place in
         (i, j, link, subst (λ m. (steps : List (LinkName × ℕ)) × IsNamedWalk joined (name_of s) steps i m) same way),
   )

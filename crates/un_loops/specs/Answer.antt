@@ -4,9 +4,12 @@ use Rattle.un_defs.specs.declared.port.Node.{Node}
 use Rattle.un_defs.specs.declared.walk.Mode.TheVariants.{Any}
 use Rattle.un_defs.specs.declared.walk.Barriers.{Barriers}
 use Rattle.un_defs.specs.declared.walk.Dirt.{Dirt}
+use Rattle.un_defs.specs.Orders.{node_cmp, rising}
 use Rattle.un_defs.specs.Ground.{Ground}
 use Rattle.un_defs.specs.Reach.{IsReach, leads, dirt}
 use Rattle.un_defs.specs.Linked.{AreLinked}
+use Rattle.un_walk.specs.declared.found.Found.{Found}
+use Rattle.un_walk.specs.Found.{nodes}
 use Rattle.un_walk.specs.Ticks.{IsLookedUpOnce}
 use Rattle.un_ask.specs.declared.trace.TraceKind.TheVariants.{Loops as LoopsKind}
 use Rattle.un_ask.specs.declared.typed.TypedAsk.{TypedAsk}
@@ -19,6 +22,10 @@ use Rattle.un_loops.specs.LoopList.{loop_segments}
 -- the nodes in which a walk of the trace ends
 abbrev pub IsReachOf : Ground → TypedAsk → List Node → Type 0
 IsReachOf G ask = IsReach (leads G ask.barriers Any) ask.starts
+
+-- the nodes that a walk found, rising
+abbrev pub reached_of : Found → List Node
+reached_of f = rising node_cmp (nodes f)
 
 -- what holds of the count of the nodes that the trace reaches, where no star is looked up twice
 abbrev pub OnReachCount : Ground → TypedAsk → (ℕ → Type 0) → Type 0

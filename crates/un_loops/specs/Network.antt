@@ -1,18 +1,21 @@
 -- The open nodes by their places in a list, and the links between them.
-use Rattle.std.specs.Prelude.{◌≡◌, ℕ, ◌==◌, Bool, false, not, ◌&&◌, ◌||◌, List, map, filter, slice_get, Contains, Option, Some, is_some}
+use Rattle.std.specs.Prelude.{◌≡◌, ℕ, ◌==◌, Bool, false, not, ◌&&◌, ◌||◌, List, [], ◌∷◌, map, filter, slice_get, Contains, Option, Some, is_some, MatchOption, ⊤}
 use Rattle.std.specs.Option.{option_map_or}
-use Rattle.std.specs.Ordering.{eq_by_cmp}
+use Rattle.std.specs.Ordering.{eq_by_cmp, is_lt}
 use Rattle.indexmap.specs.IndexMap.{IndexMap, get}
 use Rattle.un_defs.specs.declared.port.Node.{Node}
 use Rattle.un_defs.specs.declared.link.LinkName.{LinkName}
 use Rattle.un_defs.specs.declared.link.Tie.{Tie}
 use Rattle.un_defs.specs.declared.star.Spot.{Spot}
 use Rattle.un_defs.specs.declared.walk.Barriers.{Barriers}
-use Rattle.un_defs.specs.Orders.{name_cmp}
+use Rattle.un_defs.specs.Orders.{node_cmp, name_cmp}
 use Rattle.un_defs.specs.Ground.{Ground, entry}
 use Rattle.un_defs.specs.Reach.{is_barrier, is_path}
+use Rattle.un_walk.specs.declared.found.Found.{Found}
+use Rattle.un_walk.specs.Found.{nodes as found_nodes, IsFoundOver}
 use Rattle.un_loops.specs.declared.link.Link.{Link}
 use Rattle.un_loops.specs.declared.nodes.OpenNode.{OpenNode}
+use Rattle.un_loops.specs.declared.nodes.OpenNodes.{OpenNodes}
 use Rattle.un_loops.specs.Named.{AreMutual, HaveOnePair}
 
 -- the nodes
@@ -36,6 +39,24 @@ pub record AreOpenNodes (G : Ground) (B : Barriers) (reached : List Node) (nodes
 abbrev pub IsPlaceOf : List OpenNode → Node → ℕ → Type 0
 IsPlaceOf nodes n p = (o : OpenNode) × (slice_get nodes p ≡ Some o) × (o.node ≡ n)
 
+-- one for each of the nodes found: its place among the open ones, or none where it does not pass the test
+abbrev pub ArePlaces : (Node → Bool) → List OpenNode → List Node → List (Option ℕ) → Type 0
+ArePlaces test nodes [] [] = ⊤
+ArePlaces test nodes [] (p ∷ ps) = ⊥
+ArePlaces test nodes (n ∷ found) [] = ⊥
+ArePlaces test nodes (n ∷ found) (p ∷ ps) = MatchOption p (test n ≡ false) (IsPlaceOf nodes n) × ArePlaces test nodes found ps
+
+-- the open nodes of those found, and the places that these have among them
+pub record IsOpenPart (G : Ground) (B : Barriers) (found : List Node) (opened : OpenNodes) : Type 0 where
+  pub are : AreOpenNodes G B found opened.nodes.items
+  pub places : ArePlaces (is_passable G B) opened.nodes.items found opened.places.items
+
+-- what a walk found over the ground, and the open nodes of that, given some barriers
+pub record IsOpenOver (G : Ground) (f : Found) (opened : OpenNodes) : Type 0 where
+  pub over : IsFoundOver G f
+  pub barriers : Barriers
+  pub part : IsOpenPart G barriers (found_nodes f) opened
+
 -- the entry has a controller of the tier
 abbrev pub has_controller : ℕ → Spot → Bool
 has_controller tier s = option_map_or (λ c. c.tier == tier) s.controller false
@@ -58,6 +79,10 @@ pub record HasTie (nodes : List OpenNode) (i : ℕ) (t : Tie) : Type 0 where
   pub node : OpenNode
   pub at : slice_get nodes i ≡ Some node
   pub stands : Contains node.spot.now.ties t
+
+-- the node at the second place is not before the node at the first one in order
+abbrev pub IsNotBefore : List OpenNode → ℕ → ℕ → Type 0
+IsNotBefore nodes i j = (one other : OpenNode) → slice_get nodes i ≡ Some one → slice_get nodes j ≡ Some other → is_lt (node_cmp other.node one.node) ≡ false
 
 -- a walk may go from the node at the first place to the node at the second by a link of this name
 pub record IsLinkedAt (tier : Option ℕ) (nodes : List OpenNode) (x : LinkName) (i j : ℕ) : Type 0 where

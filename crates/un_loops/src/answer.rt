@@ -3,8 +3,8 @@
 ghost use Rattle.std.specs.Prelude.{◌≡◌, ◌≤◌, ◌+◌, None, IfOk, OnOk};
 ghost use Rattle.un_defs.specs.Reach.{dirt};
 ghost use Rattle.un_defs.specs.Linked.{AreLinked};
-ghost use Rattle.un_walk.specs.Seen.{nodes_of, HaveEntries};
-ghost use Rattle.un_loops.specs.Answer.{IsReachOf, OnReachCount, IsForLoops, AreLinkedOnCleanGround, loops_given_dirt, IsAnswer};
+ghost use Rattle.un_walk.specs.Found.{IsFoundOver};
+ghost use Rattle.un_loops.specs.Answer.{reached_of, IsReachOf, OnReachCount, IsForLoops, AreLinkedOnCleanGround, loops_given_dirt, IsAnswer};
 
 use crate::nodes::open_nodes;
 use crate::segments::loop_segments;
@@ -12,24 +12,25 @@ use std::alloc::{AllocError, Global};
 use un_ask::{Reply, Segments, TypedAsk};
 use un_defs::{Ground, Mode};
 use un_steps::Steps;
-use un_walk::{Seen, reach_seen};
+use un_walk::{Found, reach_found};
 
 /// The loop segments among the nodes that the trace reached, where no dirt was met.
 fn loops_among<G: Ground>(
     alloc: Global,
     over: &G,
     ask: &TypedAsk,
-    reached: &[Seen],
+    found: &Found,
 ) -> Result<Reply, AllocError>
-    requires reach { IsReachOf (G.stars_and_areas over.now) ask.now (nodes_of reached.now) }
-    requires entries { HaveEntries (G.stars_and_areas over.now) reached.now }
-    requires clean { dirt (G.stars_and_areas over.now) (nodes_of reached.now) ≡ None }
-    requires linked { AreLinked (G.stars_and_areas over.now) (nodes_of reached.now) }
+    requires reach { IsReachOf (G.stars_and_areas over.now) ask.now (reached_of found.now) }
+    requires over { IsFoundOver (G.stars_and_areas over.now) found.now }
+    requires clean { dirt (G.stars_and_areas over.now) (reached_of found.now) ≡ None }
+    requires linked { AreLinked (G.stars_and_areas over.now) (reached_of found.now) }
     ensures { IfOk result (λ reply. reply
-        ≡ loops_given_dirt None (G.stars_and_areas over.now) ask.now (nodes_of reached.now)) }
+        ≡ loops_given_dirt None (G.stars_and_areas over.now) ask.now (reached_of found.now)) }
 {
-    let nodes = open_nodes(alloc, over, reached, &ask.barriers)?;
-    let segments = loop_segments(alloc, &nodes, ask.barriers.tier)?;
+    let seen = found.seen(alloc)?;
+    let opened = open_nodes(alloc, over, &seen, &ask.barriers)?;
+    let segments = loop_segments(alloc, over, found, &opened, ask.barriers.tier)?;
     Ok(Reply::Loops {
         segments: Segments::new(segments),
         version: 0,
@@ -56,7 +57,7 @@ pub fn loops<G: Ground, L>(
         (λ count. OnOk result (steps.new ≤ steps.old + count)) }
     ensures never_falls { steps.old ≤ steps.new }
 {
-    let reached = reach_seen(
+    let reached = reach_found(
         alloc,
         over,
         ask.starts.as_slice(),
@@ -66,6 +67,6 @@ pub fn loops<G: Ground, L>(
     )?;
     match reached.dirt {
         Some(dirt) => Ok(Reply::on_dirty_ground(dirt)),
-        None => loops_among(alloc, over, ask, reached.seen.as_slice()),
+        None => loops_among(alloc, over, ask, &reached.found),
     }
 }

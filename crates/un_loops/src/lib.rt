@@ -10,11 +10,13 @@
 //!
 //! # How it is found
 //!
-//! [`answer::loops`] asks `un_walk` for the reached nodes with their entries, which come sorted, and for the dirt. Where there is no dirt it
-//! keeps the nodes that are no barrier ([`nodes::open_nodes`]); from here on a node is a number, its place in that list, and a binary search
-//! turns a node into its number. The links between these nodes go into an indexed map by name ([`network::links_between`]). Each stands at both
-//! its ends and is taken from the earlier one. What is left is a graph, with nodes from 0 and a list of links, and the question which of these
-//! lie on a cycle ([`cycles::on_cycles`]). The answer is the names of segments among them, sorted ([`segments::loop_segments`]).
+//! [`answer::loops`] asks `un_walk` for the reached nodes with their entries, in the order in which they were found, and for the dirt. Where
+//! there is no dirt it keeps the nodes that have an entry and are no barrier ([`nodes::open_nodes`]); from here on a node is a number, its
+//! place in that list. The walk has marked each found node that has an entry with its place among those found, and a second list turns such a
+//! place into that number ([`nodes::place_of`]). The links between the open nodes go into an indexed map by name ([`network::links_between`]).
+//! Each stands at both its ends and is taken from the one that is before the other in order. What is left is a graph, with nodes from 0 and a list of links, and the
+//! question which of these lie on a cycle ([`cycles::on_cycles`]). The answer is the names of segments among them, sorted
+//! ([`segments::loop_segments`]).
 //!
 //! [`forest::spanning_forest`] takes each node that was not found yet as a root, and finds all that is joined to it, by a worklist. A node's
 //! place in the forest is its number in the order in which the nodes are found. A place that is no root has a parent, the earlier place that it
@@ -47,9 +49,11 @@
 //!
 //! # What it costs
 //!
-//! Beside the walk, for each link between open nodes one binary search and one step in a hash table, and a sort of the segments on loops. The
-//! forest looks at each link twice. Each step of a climb marks a parent link, so there are at most as many steps as nodes, and each step and
-//! each link asks for a head or two. So the whole takes in the order of (V + E) log V at most.
+//! Beside the walk, the other end of each link is looked up from one of its ends, as the walk does it: by a search among the entries of the
+//! star to which it leads and, where that stands at another point, one step in a hash table of points. For each link between open nodes one
+//! more step in a hash table follows. Nodes are not sorted, but the segments on loops are. The forest looks at each link twice. Each step of a
+//! climb marks a parent link, so there are at most as many steps as nodes, and each step and each link asks for a head or two. So the whole,
+//! but for the searches in stars, takes in the order of (V + E) log V at most.
 #![tactic(auto)]
 
 pub mod answer;

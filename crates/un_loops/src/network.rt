@@ -1,21 +1,21 @@
 //! The links between the open nodes, each once.
 
-ghost use Rattle.std.specs.Prelude.{◌≡◌, ◌<◌, ◌≤◌, ℕ, length, IfOk, OnOk};
-ghost use Rattle.std.specs.List.Sorted.{IsStrictlySortedBy};
+ghost use Rattle.std.specs.Prelude.{◌≡◌, ◌<◌, ℕ, length, IfOk, OnOk};
 ghost use Rattle.std.specs.Ordering.{is_lt};
 ghost use Rattle.un_defs.specs.declared.link.LinkName.{LinkName};
 ghost use Rattle.un_defs.specs.declared.link.Tie.{Tie};
 ghost use Rattle.un_defs.specs.Orders.{node_cmp};
 ghost use Rattle.un_defs.specs.Reach.{is_path};
 ghost use Rattle.un_loops.specs.Named.{AreMutual};
-ghost use Rattle.un_loops.specs.Network.{nodes_of, has_controller, shuts, LeadsTo, HasTie, IsLinkedAt, IsNamedIn, AreBetween, KeepsNames};
+ghost use Rattle.un_loops.specs.Network.{has_controller, shuts, IsOpenOver, LeadsTo, HasTie, IsNotBefore, IsLinkedAt, IsNamedIn, AreBetween, KeepsNames};
 
 use crate::link::Link;
-use crate::nodes::{OpenNode, place_of};
+use crate::nodes::{OpenNodes, place_of};
 use indexmap::IndexMap;
 use std::alloc::{AllocError, Global};
 use std::hash::BuildHasherDefault;
-use un_defs::{LinkName, Node, Spot, Tie};
+use un_defs::{Ground, LinkName, Node, Spot, Tie};
+use un_walk::Found;
 use un_walk::hasher::NumberHasher;
 
 /// Links by name, in the order in which they were found.
@@ -52,79 +52,87 @@ fn is_shut(tier: Option<u8>, name: LinkName, one: &Spot, other: &Spot) -> bool
     }
 }
 
-/// Adds a link of the node at the place, if it leads to this open node or a later one and is not shut.
-fn add_link(
-    nodes: &[OpenNode],
+/// Adds a link of the node at the place, if it leads to an open node that is not before this one in order and is not shut.
+fn add_link<G: Ground>(
+    over: &G,
+    found: &Found,
+    opened: &OpenNodes,
     tier: Option<u8>,
     at: usize,
     tie: &Tie,
     links: &mut LinksByName,
 ) -> Result<(), AllocError>
-    requires sorted { IsStrictlySortedBy node_cmp (nodes_of nodes.now) }
-    requires has { HasTie nodes.now at tie.now }
-    requires between { AreBetween tier nodes.now links.old }
-    ensures between { OnOk result (AreBetween tier nodes.now links.new) }
+    requires opened { IsOpenOver (G.stars_and_areas over.now) found.now opened.now }
+    requires has { HasTie opened.now.nodes.items at tie.now }
+    requires between { AreBetween tier opened.now.nodes.items links.old }
+    ensures between { OnOk result (AreBetween tier opened.now.nodes.items links.new) }
     ensures kept { OnOk result (KeepsNames links.old links.new) }
-    ensures added { OnOk result ((j : ℕ) → at ≤ j
-        → LeadsTo tier nodes.now at j tie.now → IsNamedIn links.new tie.now.name) }
+    ensures added { OnOk result ((j : ℕ) → IsNotBefore opened.now.nodes.items at j
+        → LeadsTo tier opened.now.nodes.items at j tie.now → IsNamedIn links.new tie.now.name) }
 {
-    let here = nodes[at];
+    let here = opened.nodes[at];
     if is_before(tie.to, here.node) {
         return Ok(());
     }
-    let Some(end) = place_of(nodes, tie.to) else {
+    let Some(end) = place_of(over, found, opened, here.place, tie.to) else {
         return Ok(());
     };
-    if is_shut(tier, tie.name, here.spot, nodes[end].spot) {
+    if is_shut(tier, tie.name, here.spot, opened.nodes[end].spot) {
         return Ok(());
     }
     links.insert(tie.name, Link { a: at, b: end })?;
     Ok(())
 }
 
-/// Adds the links of the node at the place that lead to it or to a later one.
-fn add_links(
-    nodes: &[OpenNode],
+/// Adds the links of the node at the place that lead to nodes that are not before it.
+fn add_links<G: Ground>(
+    over: &G,
+    found: &Found,
+    opened: &OpenNodes,
     tier: Option<u8>,
     at: usize,
     links: &mut LinksByName,
 ) -> Result<(), AllocError>
-    requires sorted { IsStrictlySortedBy node_cmp (nodes_of nodes.now) }
-    requires inside { at < length nodes.now }
-    requires between { AreBetween tier nodes.now links.old }
-    ensures between { OnOk result (AreBetween tier nodes.now links.new) }
+    requires opened { IsOpenOver (G.stars_and_areas over.now) found.now opened.now }
+    requires inside { at < length opened.now.nodes.items }
+    requires between { AreBetween tier opened.now.nodes.items links.old }
+    ensures between { OnOk result (AreBetween tier opened.now.nodes.items links.new) }
     ensures kept { OnOk result (KeepsNames links.old links.new) }
-    ensures added { OnOk result ((x : LinkName) (j : ℕ) → at ≤ j
-        → IsLinkedAt tier nodes.now x at j → IsNamedIn links.new x) }
+    ensures added { OnOk result ((x : LinkName) (j : ℕ) → IsNotBefore opened.now.nodes.items at j
+        → IsLinkedAt tier opened.now.nodes.items x at j → IsNamedIn links.new x) }
 {
-    let spot = nodes[at].spot;
+    let spot = opened.nodes[at].spot;
     for tie in spot.ties.as_slice() {
-        add_link(nodes, tier, at, tie, links)?;
+        add_link(over, found, opened, tier, at, tie, links)?;
     }
     Ok(())
 }
 
 /// Half as many links again as there are nodes. Networks seldom have more, and a map that is full moves all its links.
-fn room_for_links(nodes: &[OpenNode]) -> usize {
-    nodes.len().saturating_add(nodes.len() / 2)
+fn room_for_links(count: usize) -> usize {
+    count.saturating_add(count / 2)
 }
 
-/// The links between the open nodes, with the places of their ends. Each stands at both, and is taken from the earlier one.
-pub(crate) fn links_between(
+/// The links between the open nodes, with the places of their ends. Each stands at both, and is taken from the one that is
+/// before the other in order, so that it is looked up once.
+pub(crate) fn links_between<G: Ground>(
     alloc: Global,
-    nodes: &[OpenNode],
+    over: &G,
+    found: &Found,
+    opened: &OpenNodes,
     tier: Option<u8>,
 ) -> Result<LinksByName, AllocError>
-    requires sorted { IsStrictlySortedBy node_cmp (nodes_of nodes.now) }
-    requires mutual_links { AreMutual (IsLinkedAt tier nodes.now) }
-    ensures between { IfOk result (AreBetween tier nodes.now) }
+    requires opened { IsOpenOver (G.stars_and_areas over.now) found.now opened.now }
+    requires mutual_links { AreMutual (IsLinkedAt tier opened.now.nodes.items) }
+    ensures between { IfOk result (AreBetween tier opened.now.nodes.items) }
     ensures whole { IfOk result (λ links. (x : LinkName) (i j : ℕ)
-        → IsLinkedAt tier nodes.now x i j → IsNamedIn links x) }
+        → IsLinkedAt tier opened.now.nodes.items x i j → IsNamedIn links x) }
 {
     let hasher = BuildHasherDefault::new();
-    let mut links = IndexMap::with_capacity_and_hasher(alloc, room_for_links(nodes), hasher)?;
-    for at in 0..nodes.len() {
-        add_links(nodes, tier, at, &mut links)?;
+    let count = opened.nodes.len();
+    let mut links = IndexMap::with_capacity_and_hasher(alloc, room_for_links(count), hasher)?;
+    for at in 0..count {
+        add_links(over, found, opened, tier, at, &mut links)?;
     }
     Ok(links)
 }

@@ -1,23 +1,29 @@
-//! The reached nodes that are open, and their places in order.
+//! The found nodes that are open, and their places.
 
 ghost use Rattle.std.specs.Prelude.{◌≡◌, ℕ, None, IfOk, MatchOption, if◌then◌else◌};
 ghost use Rattle.std.specs.Option.{option_copied};
-ghost use Rattle.std.specs.List.Sorted.{IsStrictlySortedBy};
-ghost use Rattle.un_defs.specs.Orders.{node_cmp};
 ghost use Rattle.un_defs.specs.Ground.{entry};
 ghost use Rattle.un_defs.specs.Reach.{is_barrier};
 ghost use Rattle.un_walk.specs.Seen.{spot_of, HaveEntries, nodes_of as seen_nodes};
-ghost use Rattle.un_loops.specs.Network.{AreOpenNodes, IsPlaceOf, nodes_of};
+ghost use Rattle.un_loops.specs.Network.{IsOpenPart, IsOpenOver, IsPlaceOf};
 
 use std::alloc::{AllocError, Global};
 use un_defs::{Barriers, Ground, Node, Spot};
-use un_walk::Seen;
+use un_walk::{Found, Seen};
 
-/// A node that a walk may go on from, with its entry.
+/// A node that a walk may go on from, with its entry and its place among the found nodes.
 #[derive(Clone, Copy)]
 pub(crate) struct OpenNode<'a> {
     pub(crate) node: Node,
     pub(crate) spot: &'a Spot,
+    pub(crate) place: usize,
+}
+
+/// The open nodes in the order in which they were found, and for each found node its place among them.
+#[derive(Drop)]
+pub(crate) struct OpenNodes<'a> {
+    pub(crate) nodes: Vec<OpenNode<'a>>,
+    pub(crate) places: Vec<Option<usize>>,
 }
 
 /// The entry of a reached node that is no barrier. The ground is there for the contract alone.
@@ -37,34 +43,48 @@ fn spot_unless_barrier<'a, G: Ground>(
     }
 }
 
-/// The reached nodes that are no barrier and have an entry, in order.
+/// The found nodes that are no barrier and have an entry, in the order in which they were found.
 pub(crate) fn open_nodes<'a, G: Ground>(
     alloc: Global,
     over: &G,
-    reached: &[Seen<'a>],
+    seen: &[Seen<'a>],
     barriers: &Barriers,
-) -> Result<Vec<OpenNode<'a>>, AllocError>
-    requires { HaveEntries (G.stars_and_areas over.now) reached.now }
-    ensures { IfOk result (λ nodes.
-        AreOpenNodes (G.stars_and_areas over.now) barriers.now (seen_nodes reached.now) nodes.items) }
+) -> Result<OpenNodes<'a>, AllocError>
+    requires { HaveEntries (G.stars_and_areas over.now) seen.now }
+    ensures { IfOk result
+        (IsOpenPart (G.stars_and_areas over.now) barriers.now (seen_nodes seen.now)) }
 {
-    let mut nodes = Vec::with_capacity(alloc, reached.len())?;
-    for one in reached {
-        if let Some(spot) = spot_unless_barrier(over, one, barriers) {
-            nodes.push(OpenNode {
-                node: one.node,
-                spot,
-            })?;
+    let mut nodes = Vec::with_capacity(alloc, seen.len())?;
+    let mut places = Vec::with_capacity(alloc, seen.len())?;
+    for one in seen {
+        match spot_unless_barrier(over, one, barriers) {
+            Some(spot) => {
+                let place = places.len();
+                places.push(Some(nodes.len()))?;
+                nodes.push(OpenNode {
+                    node: one.node,
+                    spot,
+                    place,
+                })?;
+            }
+            None => places.push(None)?,
         }
     }
-    Ok(nodes)
+    Ok(OpenNodes { nodes, places })
 }
 
-/// The place of a node among the open ones.
-pub(crate) fn place_of(nodes: &[OpenNode], node: Node) -> Option<usize>
-    requires { IsStrictlySortedBy node_cmp (nodes_of nodes.now) }
-    ensures { MatchOption result ((p : ℕ) → IsPlaceOf nodes.now node p → ⊥)
-        (IsPlaceOf nodes.now node) }
+/// The place of a node among the open ones. It is sought from the node at the place `from` among those found.
+pub(crate) fn place_of<G: Ground>(
+    over: &G,
+    found: &Found,
+    opened: &OpenNodes,
+    from: usize,
+    node: Node,
+) -> Option<usize>
+    requires { IsOpenOver (G.stars_and_areas over.now) found.now opened.now }
+    ensures { MatchOption result ((p : ℕ) → IsPlaceOf opened.now.nodes.items node p → ⊥)
+        (IsPlaceOf opened.now.nodes.items node) }
 {
-    nodes.binary_search_by(|open| open.node.cmp(&node)).ok()
+    let place = found.place_from(over, from, node)?;
+    opened.places[place]
 }

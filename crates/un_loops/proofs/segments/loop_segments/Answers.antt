@@ -30,9 +30,9 @@ if_ok_map (Ok x) P Q f h = f x h
 if_ok_map (Err e) P Q f h = h
 
 pub on_cycles-requires : goal.on_cycles-requires
-on_cycles-requires c = λ j l at.
+on_cycles-requires g c = λ j l at.
     let m = c.in_ok-links.links in
-    let linked = IsLinkedAt c.args.tier c.args.nodes.now in
+    let linked = IsLinkedAt c.args.tier c.args.opened.now.nodes.items in
     let list_is : c.deref.result.now ≡ values m = search rules in
     let is : IsMapOf linked (eq_by_cmp name_cmp) m = record {
       unique = subst (λ eq. IsUnique eq m) equals_alike c.keys.ensures.unique;
@@ -40,12 +40,15 @@ on_cycles-requires c = λ j l at.
       whole = c.in_ok-links.ensures.whole;
     } in
     let there = sound_at (eq_by_cmp name_cmp) (eq_by_cmp_equiv name_total) same_name m (Assoc 0) linked c.requires.linked.mutual_links c.requires.linked.one_pair is j l (subst (λ (ls : List Link). slice_get ls j ≡ Some l) list_is at) in
-    (slice_get_within c.args.nodes.now l.a there.has.node there.has.at, slice_get_within c.args.nodes.now l.b there.leads.other there.leads.at_other)
+    let count : c.len.result ≡ length c.args.opened.now.nodes.items = search rules in (
+      subst (λ k. l.a < k) (sym count) (slice_get_within c.args.opened.now.nodes.items l.a there.has.node there.has.at),
+      subst (λ k. l.b < k) (sym count) (slice_get_within c.args.opened.now.nodes.items l.b there.leads.other there.leads.at_other),
+    )
 
 pub returns-clause-exact : goal.returns-clause-exact
-returns-clause-exact c =
+returns-clause-exact g c =
     let m = c.in_ok-links.links in
-    let linked = IsLinkedAt c.args.tier c.args.nodes.now in
+    let linked = IsLinkedAt c.args.tier c.args.opened.now.nodes.items in
     let list : List Link = c.deref.result.now in
     let names : List LinkName = c.deref-2.result.now in
     let marks : List Bool = c.deref-3.result.now in
@@ -75,7 +78,7 @@ returns-clause-exact c =
     c.rising.ensures
 
 pub returns-clause-rising : goal.returns-clause-rising
-returns-clause-rising c =
+returns-clause-rising g c =
     let marked : List Segment = c.deref-4.result.now in
     if_ok_map c.rising.result (λ found. found.items ≡ rising by_segment.ghosts.cmp marked) (λ found. IsStrictlySortedBy segment_cmp found.items)
     (λ found items. subst (IsStrictlySortedBy segment_cmp) (sym (items ∙ rises_alike marked)) (sorted-rising segment_total marked))
