@@ -23,7 +23,8 @@ pub fn commands(alloc: Global, seed: u32, count: u32) -> Result<Vec<Command>, Al
     requires few { count ≤ 20000 }
     ensures { IfOk result (λ made. made.items ≡ generated seed count) }
 {
-    let mut commands = Vec::new(alloc);
+    // A joint and at most two pipes for each place, and the validation.
+    let mut commands = Vec::with_capacity(alloc, 3 * count as usize + 1)?;
     joints::push_joints(alloc, count, &mut commands)?;
     pipes::push_pipes(alloc, seed, count, &mut commands)?;
     commands.push(inserts::validation())?;
