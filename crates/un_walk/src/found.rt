@@ -1,6 +1,6 @@
 //! The nodes that a walk has found, each once, in the order in which they were found.
 
-ghost use Rattle.std.specs.Prelude.{◌≡◌, ◌<◌, ◌≤◌, ◌+◌, ◌-◌, ◌⊎◌, ℕ, [], true, false, length, slice_get, Some, None, All, IsTrue, IsSome, IfSome, IfNone, IfOk, OnOk};
+ghost use Rattle.std.specs.Prelude.{◌≡◌, ◌<◌, ◌≤◌, ◌+◌, ◌-◌, ◌⊎◌, ℕ, [], true, false, length, map, slice_get, Some, None, All, IsTrue, IsSome, IfSome, IfNone, IfOk, OnOk};
 ghost use Rattle.un_defs.specs.Ground.{Ground, entry};
 ghost use Rattle.un_defs.specs.Orders.{same_node};
 ghost use Rattle.un_walk.specs.Growth.{has_node, with_node};
@@ -84,6 +84,12 @@ fn put_mark(visited: &mut [Visited], number: usize, place: usize, mark: usize) -
     true
 }
 
+fn nodes_in(alloc: Global, items: &[Item]) -> Result<Vec<Node>, AllocError>
+    ensures { IfOk result (λ list. list.items ≡ map (λ i. i.seen.node) items.now) }
+{
+    items.iter().map(|item| item.seen.node).collect(alloc)
+}
+
 impl<'a> Found<'a> {
     pub(crate) fn new(alloc: Global) -> Self
         ensures empty { nodes result ≡ [] }
@@ -122,6 +128,13 @@ impl<'a> Found<'a> {
         ensures { IfOk result (λ seen. seen.items ≡ seens self.now) }
     {
         self.items.iter().map(|item| item.seen).collect(alloc)
+    }
+
+    /// The nodes alone, in the order in which they were found.
+    pub(crate) fn nodes(&self, alloc: Global) -> Result<Vec<Node>, AllocError>
+        ensures { IfOk result (λ list. list.items ≡ nodes self.now) }
+    {
+        nodes_in(alloc, self.items.as_slice())
     }
 
     // Whether the node at the place was found from this one. Nothing is looked up for that.

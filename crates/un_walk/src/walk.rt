@@ -2,6 +2,7 @@
 
 ghost use Rattle.std.specs.Prelude.{◌≡◌, ◌<◌, ◌≤◌, ◌+◌, ◌&&◌, [], length, IfOk, OnOk};
 ghost use Rattle.std.specs.List.{list_any};
+ghost use Rattle.std.specs.List.Sorted.{IsPermutation, IsSorted};
 ghost use Rattle.un_defs.specs.Ground.{entry};
 ghost use Rattle.un_defs.specs.Orders.{same_node, node_cmp, rising};
 ghost use Rattle.un_defs.specs.Reach.{IsReach, leads, dirt, meets_condition};
@@ -59,6 +60,13 @@ impl ReachedSeen<'_> {
     {
         nodes_of(alloc, self.seen.as_slice())
     }
+}
+
+fn sort(nodes: &mut Vec<Node>)
+    ensures permutation { IsPermutation nodes.old.items nodes.new.items }
+    ensures sorted { IsSorted node_cmp nodes.new.items }
+{
+    nodes.sort_unstable();
 }
 
 fn add_starts<'a, G: Ground, L>(
@@ -243,9 +251,11 @@ pub fn reach<G: Ground, L>(
         → IfOk result (λ r. steps.new ≤ steps.old + length r.nodes) }
     ensures never_falls { steps.old ≤ steps.new }
 {
-    let reached = reach_seen(alloc, over, starts, mode, barriers, steps)?;
+    let reached = reach_found(alloc, over, starts, mode, barriers, steps)?;
+    let mut nodes = reached.found.nodes(alloc)?;
+    sort(&mut nodes);
     Ok(Reached {
-        nodes: reached.nodes(alloc)?,
+        nodes: Nodes::new(nodes),
         dirt: reached.dirt,
     })
 }
