@@ -3,15 +3,11 @@ ghost use Rattle.un_attrs.specs.Attributes.{bad_place, in_range};
 
 use thiserror::Error;
 
-/// Why pairs do not become attributes.
+/// The place of the first pair that is not taken.
 #[derive(Clone, Copy, Debug, PartialEq, Eq, Hash, Error)]
-pub enum AttrsFault {
-    /// The place of the first pair that is not taken.
-    #[error("the attribute at place {place} is unknown, out of range, or the ninth")]
-    BadAttribute { place: usize },
-    /// Out of memory.
-    #[error("out of memory")]
-    Memory,
+#[error("the attribute at place {place} is unknown, out of range, or the ninth")]
+pub struct BadAttribute {
+    pub place: usize,
 }
 
 // The greatest value of an attribute. The least is as far below 0.

@@ -1,4 +1,4 @@
-use crate::{Attrs, AttrsFault, Cats};
+use crate::{Attrs, Cats};
 use std::test::Fail;
 
 #[test]
@@ -8,7 +8,7 @@ fn pairs_rise(rt: HostRuntime) {
         (Some(2), -1_000_000_000_000),
         (Some(31), 0),
     ];
-    match Attrs::new(rt.alloc(), &given) {
+    match Attrs::new(&given) {
         Ok(attrs) => {
             assert_eq!(rt; attrs.pairs().len(), 3);
             assert_eq!(rt; attrs.get(7), Some(1_000_000_000_000));
@@ -20,10 +20,9 @@ fn pairs_rise(rt: HostRuntime) {
 
 #[test]
 fn the_first_bad_pair_is_named(rt: HostRuntime) {
-    let given = [(Some(0), 1), (None, 1), (Some(1), 1_000_000_000_001)];
-    match Attrs::new(rt.alloc(), &given) {
+    match Attrs::new(&[(Some(0), 1), (None, 1), (Some(1), 1_000_000_000_001)]) {
         Ok(_) => panic!(rt; "an unknown name"),
-        Err(fault) => assert_eq!(rt; fault, AttrsFault::BadAttribute { place: 1 }),
+        Err(bad) => assert_eq!(rt; bad.place, 1),
     }
 }
 

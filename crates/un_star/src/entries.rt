@@ -156,7 +156,7 @@ fn spot<R: Rows>(
         kind: row.kind,
         class: row.class,
         cats: rows.schema().cats(row.kind),
-        attrs: row.attrs.share()?,
+        attrs: row.attrs.copy(),
         ties,
         controller,
         container: container(contained.as_slice(), row.id),

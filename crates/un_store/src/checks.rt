@@ -13,7 +13,7 @@ ghost use Rattle.un_store.specs.Refusals.{no_kind, not_plain, bad_shape, bad_att
 
 use crate::store::Store;
 use std::alloc::{AllocError, Global};
-use un_attrs::{Attrs, AttrsFault};
+use un_attrs::Attrs;
 use un_defs::{Flow, Limit, NamedAttrs, Refusal, Row};
 use un_geom::{Shape, ShapeFault, Triples};
 use un_schema::{Class, Kind, Name, Schema};
@@ -87,10 +87,9 @@ pub(crate) fn attrs_of(alloc: Global, schema: &Schema, attrs: &NamedAttrs) -> Re
 {
     let named = attrs.as_slice();
     let pairs = numbers_of(alloc, schema, named)?;
-    match Attrs::new(alloc, pairs.as_slice()) {
+    match Attrs::new(pairs.as_slice()) {
         Ok(given) => Ok(given),
-        Err(AttrsFault::BadAttribute { place }) => Err(bad_at(alloc, named, place)),
-        Err(AttrsFault::Memory) => Err(Refusal::Memory),
+        Err(bad) => Err(bad_at(alloc, named, bad.place)),
     }
 }
 

@@ -45,7 +45,7 @@ pub(crate) fn reshaped(alloc: Global, row: &Row, shape: Shape) -> Result<Row, Al
         class: row.class,
         terminals: row.terminals,
         shape,
-        attrs: row.attrs.share()?,
+        attrs: row.attrs.copy(),
         path: row.path,
         flow: row.flow,
         ends: row.ends,

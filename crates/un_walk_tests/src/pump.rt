@@ -140,7 +140,7 @@ const FROM_MAIN: Tie = Tie {
 };
 
 fn spot(alloc: Global, node: Node, ties: &[Tie]) -> Result<Spot, AllocError> {
-    let Ok(attrs) = Attrs::new(alloc, &[]) else {
+    let Ok(attrs) = Attrs::new(&[]) else {
         return Err(AllocError);
     };
     Ok(Spot {

@@ -9,7 +9,7 @@ use crate::read::fields::{field, has_length, port_at};
 use crate::read::link::{Link, base_at};
 use serde_json::{Map, Value};
 use std::alloc::{AllocError, Global};
-use un_attrs::{Attrs, AttrsFault};
+use un_attrs::Attrs;
 use un_defs::link::{TieList, Ties};
 use un_defs::star::Spots;
 use un_defs::{Controller, Ids, Port, Spot};
@@ -73,11 +73,7 @@ fn read_attrs(alloc: Global, schema: &Schema, value: &Value) -> Result<Option<At
     let Some(pairs) = read_numbered(alloc, schema, members)? else {
         return Ok(None);
     };
-    match Attrs::new(alloc, pairs.as_slice()) {
-        Ok(attrs) => Ok(Some(attrs)),
-        Err(AttrsFault::BadAttribute { .. }) => Ok(None),
-        Err(AttrsFault::Memory) => Err(AllocError),
-    }
+    Ok(Attrs::new(pairs.as_slice()).ok())
 }
 
 fn attrs_at(

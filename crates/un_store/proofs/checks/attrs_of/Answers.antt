@@ -1,4 +1,4 @@
-use Rattle.std.proofs.Common.{◌≡◌, Some, ◌∙◌, sym, ap, rules}
+use Rattle.std.proofs.Common.{◌≡◌, Some, ◌∙◌, sym, ap}
 use Rattle.std.specs.Prelude.{slice_get, option_and_then}
 use Rattle.std.specs.Option.{option_map}
 use Rattle.un_attrs.specs.Attributes.{known, in_order, bad_place}
@@ -13,11 +13,11 @@ returns-in-Ok-clause-attrs c =
     ∙ numbered_is c.args.schema.now c.args.attrs.now
 
 pub bad_at-requires : goal.bad_at-requires
-bad_at-requires c = bad_named c.args.schema.now c.as_slice-named.result.now c.in-Err-BadAttribute.place (ap bad_place (sym c.in_ok-pairs.ensures.numbers) ∙ ap bad_place (sym c.as_slice.ensures.value) ∙ (c.new.ensures.bad c.in-Err-BadAttribute.place).0 (search rules))
+bad_at-requires c = bad_named c.args.schema.now c.as_slice-named.result.now c.in-Err.bad.place (ap bad_place (sym c.in_ok-pairs.ensures.numbers) ∙ ap bad_place (sym c.as_slice.ensures.value) ∙ c.in-Err.ensures.bad)
 
-pub returns-in-Err-BadAttribute-clause-bad : goal.returns-in-Err-BadAttribute-clause-bad
-returns-in-Err-BadAttribute-clause-bad c = λ not_memory.
+pub returns-clause-bad : goal.returns-clause-bad
+returns-clause-bad c = λ not_memory.
     let S = c.args.schema.now in
     let named = c.as_slice-named.result.now in
-    let at : bad_place (numbers_of S named) ≡ Some c.in-Err-BadAttribute.place = ap bad_place (sym c.in_ok-pairs.ensures.numbers) ∙ ap bad_place (sym c.as_slice.ensures.value) ∙ (c.new.ensures.bad c.in-Err-BadAttribute.place).0 (search rules) in
+    let at : bad_place (numbers_of S named) ≡ Some c.in-Err.bad.place = ap bad_place (sym c.in_ok-pairs.ensures.numbers) ∙ ap bad_place (sym c.as_slice.ensures.value) ∙ c.in-Err.ensures.bad in
     rw (← c.as_slice-named.ensures.pairs) (ap (λ o. option_map (λ pair. refusal.BadAttribute pair.0) (option_and_then (λ place. slice_get named place) o)) at ∙ c.bad_at.ensures not_memory)
