@@ -1,5 +1,5 @@
 -- The segments among names of which some are marked.
-use Rattle.std.proofs.Common.{◌≡◌, ℕ, zero, suc, ◌↔◌, Bool, true, false, List, [], ◌∷◌, Some, nat_cmp, inl, inr, refl, ap, ◌∙◌}
+use Rattle.std.proofs.Common.{◌≡◌, ℕ, zero, suc, ◌↔◌, Bool, true, false, List, [], ◌∷◌, Some, Ordering, Less, Equal, Greater, nat_cmp, inl, inr, refl, ap, ◌∙◌}
 use Rattle.std.specs.Prelude.{slice_get, Contains}
 use Rattle.std.specs.List.{zip}
 use Rattle.std.specs.Ordering.{ordering_then}
@@ -12,7 +12,6 @@ use Rattle.un_defs.proofs.LinkCases.{some_same}
 use Rattle.un_ask.specs.contracts.results.SegmentOrd.TheImpl as by_segment
 use Rattle.un_ask.specs.declared.results.Segment.{Segment}
 use Rattle.un_loops.proofs.Listing.{segment_ties}
-use Rattle.un_loops.proofs.Naming.{at_end}
 use Rattle.un_loops.specs.Loops.{segment_cmp}
 use Rattle.un_loops.specs.Marked.{segment_if, marked_segments}
 
@@ -59,6 +58,12 @@ has_marked names marks s = (
 )
 
 -- ---- their order
+
+-- nothing after an order changes it
+at_end : (k : Ordering) → k ≡ ordering_then k Equal
+at_end Less = refl
+at_end Equal = refl
+at_end Greater = refl
 
 -- the order of the code's segments is that of the definitions
 pub rises_alike : (xs : List Segment) → rising by_segment.ghosts.cmp xs ≡ rising segment_cmp xs

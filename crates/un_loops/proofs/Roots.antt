@@ -2,10 +2,9 @@
 use Rattle.std.proofs.Common.{◌≡◌, ◌≢◌, ℕ, zero, suc, ◌<◌, ◌≤◌, ◌⊎◌, inl, inr, List, length, Option, None, Some, refl, sym, ap, subst, ◌∙◌, arith}
 use Rattle.std.specs.Prelude.{slice_get}
 use Rattle.un_loops.specs.declared.link.Link.{Link}
-use Rattle.un_loops.specs.declared.forest.Parent.{Parent}
-use Rattle.un_loops.specs.declared.forest.Place.{Place}
+use Rattle.un_loops.specs.declared.graph.Parent.{Parent}
 use Rattle.un_loops.specs.Graph.{Joins, IsJoinedBy, IsOnCycle}
-use Rattle.un_loops.specs.Forest.{place_at, IsForest}
+use Rattle.un_loops.specs.Forest.{parent_at, IsForest, IsParentLink}
 use Rattle.un_loops.proofs.Walks.{joined_along, joined_link, joined_trans, joined_back, joined_allowed}
 
 pub option_cases : {X : Type 0} (o : Option X) → (o ≡ None) ⊎ ((x : X) × (o ≡ Some x))
@@ -38,8 +37,8 @@ on_cycle_from links i u v (l, at, inr e) walk = (
       (subst (λ x. IsJoinedBy links (λ j. j ≢ i) x l.a) (sym e.1) (subst (IsJoinedBy links (λ j. j ≢ i) u) (sym e.0) walk)),
 )
 
-module _ (links : List Link) (places : List Place) (forest : IsForest links places) where
-  pub one_child : (v w : ℕ) (s t : Parent) → v < length places → w < length places → (place_at places v).parent ≡ Some s → (place_at places w).parent ≡ Some t → s.link ≡ t.link → v ≡ w
+module _ (links : List Link) (parents : List (Option Parent)) (forest : IsForest links parents) where
+  pub one_child : (v w : ℕ) (s t : Parent) → v < length parents → w < length parents → parent_at parents v ≡ Some s → parent_at parents w ≡ Some t → s.link ≡ t.link → v ≡ w
   one_child v w s t v_in w_in v_up w_up same =
       let one = forest.parent v s v_in v_up in
       let other = forest.parent w t w_in w_up in
@@ -53,17 +52,17 @@ module _ (links : List Link) (places : List Place) (forest : IsForest links plac
   module _ (top : ℕ) where
     -- the link is the parent link of a place below the top
     IsUpBelow : ℕ → Type 0
-    IsUpBelow j = (w : ℕ) × (t : Parent) × (w < top) × (w < length places) × ((place_at places w).parent ≡ Some t) × (t.link ≡ j)
+    IsUpBelow j = (w : ℕ) × (t : Parent) × (w < top) × (w < length parents) × (parent_at parents w ≡ Some t) × (t.link ≡ j)
 
     IsRooted : ℕ → Type 0
-    IsRooted v = ((place_at places v).root ≤ v) × IsJoinedBy links IsUpBelow v (place_at places v).root
+    IsRooted v = (forest.root v ≤ v) × IsJoinedBy links IsUpBelow v (forest.root v)
 
-    rooted_from : (v : ℕ) → v < top → v < length places → (k : ℕ) → v < k → IsRooted v
+    rooted_from : (v : ℕ) → v < top → v < length parents → (k : ℕ) → v < k → IsRooted v
     unfolding IsUpBelow IsRooted
     rooted_from v low inside zero h = absurd (omega arith)
     rooted_from v low inside (suc k) h =
-        elim (option_cases (place_at places v).parent) [
-          | inl none ↦ let is = forest.top v inside none in (omega (arith, is), joined_along links IsUpBelow v (place_at places v).root (sym is))
+        elim (option_cases (parent_at parents v)) [
+          | inl none ↦ let is = forest.top v inside none in (omega (arith, is), joined_along links IsUpBelow v (forest.root v) (sym is))
           | inr some ↦
               let u : Parent = some.0 in
               let way = forest.parent v u inside some.1 in
@@ -71,27 +70,27 @@ module _ (links : List Link) (places : List Place) (forest : IsForest links plac
               let more = rooted_from u.place (omega arith) (omega arith) k (omega arith) in
               let allowed : IsUpBelow u.link = (v, u, low, inside, some.1, refl) in (
                 omega (arith, more.0, way.2),
-                joined_trans links IsUpBelow v u.place (place_at places v).root
+                joined_trans links IsUpBelow v u.place (forest.root v)
                     (joined_link links IsUpBelow u.link v u.place allowed way.1)
                     (subst (IsJoinedBy links IsUpBelow u.place) way.2 more.1),
               )
         ]
 
   -- of two places of one root, the parent of the higher one is joined to the lower one without the parent link of the higher one
-  pub way_round : (x y : ℕ) → y < x → x < length places → (place_at places x).root ≡ (place_at places y).root → (u : Parent) × ((place_at places x).parent ≡ Some u) × IsJoinedBy links (λ j. j ≢ u.link) y u.place
+  pub way_round : (x y : ℕ) → y < x → x < length parents → forest.root x ≡ forest.root y → (u : Parent) × (parent_at parents x ≡ Some u) × IsJoinedBy links (λ j. j ≢ u.link) y u.place
   unfolding IsUpBelow IsRooted
   way_round x y lower inside same =
       let from_y = rooted_from x y lower (omega arith) (suc y) (omega arith) in
-      elim (option_cases (place_at places x).parent) [
+      elim (option_cases (parent_at parents x)) [
         | inl none ↦ absurd (omega (arith, forest.top x inside none, from_y.0, same))
         | inr some ↦
             let u : Parent = some.0 in
             let way = forest.parent x u inside some.1 in
             let less : u.place < x = way.0 in
             let from_u = rooted_from x u.place less (omega arith) (suc u.place) (omega arith) in
-            let meet : (place_at places u.place).root ≡ (place_at places y).root = way.2 ∙ same in
-            let walk = joined_trans links (IsUpBelow x) y (place_at places y).root u.place from_y.1
-            (joined_back links (IsUpBelow x) u.place (place_at places y).root (subst (IsJoinedBy links (IsUpBelow x) u.place) meet from_u.1)) in (
+            let meet : forest.root u.place ≡ forest.root y = way.2 ∙ same in
+            let walk = joined_trans links (IsUpBelow x) y (forest.root y) u.place from_y.1
+            (joined_back links (IsUpBelow x) u.place (forest.root y) (subst (IsJoinedBy links (IsUpBelow x) u.place) meet from_u.1)) in (
               u,
               some.1,
               joined_allowed links (IsUpBelow x) (λ j. j ≢ u.link)
@@ -101,3 +100,15 @@ module _ (links : List Link) (places : List Place) (forest : IsForest links plac
                   y u.place walk,
             )
       ]
+
+  -- parent links join the ends of each link
+  pub ends_joined : (j : ℕ) (l : Link) → slice_get links j ≡ Some l → IsJoinedBy links (IsParentLink parents) l.a l.b
+  unfolding IsUpBelow IsRooted
+  ends_joined j l at =
+      let ends = forest.ends j l at in
+      let top = length parents in
+      let from_a = rooted_from top l.a ends.0 ends.0 (suc l.a) (omega arith) in
+      let from_b = rooted_from top l.b ends.1 ends.1 (suc l.b) (omega arith) in
+      let back = joined_back links (IsUpBelow top) l.b (forest.root l.a) (subst (IsJoinedBy links (IsUpBelow top) l.b) (sym ends.2) from_b.1) in
+      joined_allowed links (IsUpBelow top) (IsParentLink parents) (λ i (w, t, low, inside, up, is). (w, t, inside, up, is)) l.a l.b
+      (joined_trans links (IsUpBelow top) l.a (forest.root l.a) l.b from_a.1 back)

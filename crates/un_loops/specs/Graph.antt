@@ -1,10 +1,6 @@
 -- Walks over a list of links, and the links that lie on a cycle. A link is identified by its index in the list.
-use Rattle.std.specs.Prelude.{◌≡◌, ◌≢◌, ℕ, ◌<◌, ◌⊎◌, List, [], ◌∷◌, Some, slice_get}
+use Rattle.std.specs.Prelude.{◌≡◌, ◌≢◌, ℕ, ◌⊎◌, List, [], ◌∷◌, Some, slice_get}
 use Rattle.un_loops.specs.declared.link.Link.{Link}
-
--- each link joins two of the first n nodes
-abbrev pub HaveEndsBelow : List Link → ℕ → Type 0
-HaveEndsBelow links n = (j : ℕ) (l : Link) → slice_get links j ≡ Some l → (l.a < n) × (l.b < n)
 
 -- the two nodes are the link's ends, in either order
 abbrev pub HasEnds : Link → ℕ → ℕ → Type 0

@@ -1,10 +1,9 @@
 -- Heads: for each place, itself or a place nearer to the root that it is joined to by parent links known to lie on cycles. A place that is not its own head has its parent link on a cycle.
-use Rattle.std.specs.Prelude.{◌≡◌, ◌≢◌, ℕ, ◌<◌, ◌≤◌, ◌⊎◌, zero, suc, List, length, Some, slice_index, slice_get}
+use Rattle.std.specs.Prelude.{◌≡◌, ◌≢◌, ℕ, ◌<◌, ◌≤◌, ◌⊎◌, zero, suc, List, length, Option, Some, slice_index, slice_get}
 use Rattle.un_loops.specs.declared.link.Link.{Link}
-use Rattle.un_loops.specs.declared.forest.Parent.{Parent}
-use Rattle.un_loops.specs.declared.forest.Place.{Place}
+use Rattle.un_loops.specs.declared.graph.Parent.{Parent}
 use Rattle.un_loops.specs.Graph.{IsJoinedBy, IsOnCycle}
-use Rattle.un_loops.specs.Forest.{place_at, IsParentLink}
+use Rattle.un_loops.specs.Forest.{parent_at, IsParentLink}
 
 -- no head is later than its place
 abbrev pub AreHeadsBelow : List ℕ → Type 0
@@ -23,18 +22,18 @@ pub record AreShortened (old new : List ℕ) : Type 0 where
   pub moves : (v : ℕ) → v < length old → slice_index old v ≢ v → slice_index new v ≢ v
 
 -- the link is the parent link of a place that is not its own head
-abbrev pub IsMarked : List Place → List ℕ → ℕ → Type 0
-IsMarked places heads j = (v : ℕ) × (u : Parent) × (v < length heads) × ((place_at places v).parent ≡ Some u) × (u.link ≡ j) × (slice_index heads v ≢ v)
+abbrev pub IsMarked : List (Option Parent) → List ℕ → ℕ → Type 0
+IsMarked parents heads j = (v : ℕ) × (u : Parent) × (v < length heads) × (parent_at parents v ≡ Some u) × (u.link ≡ j) × (slice_index heads v ≢ v)
 
-pub record AreHeads (links : List Link) (places : List Place) (heads : List ℕ) : Type 0 where
-  pub count : length heads ≡ length places
+pub record AreHeads (links : List Link) (parents : List (Option Parent)) (heads : List ℕ) : Type 0 where
+  pub count : length heads ≡ length parents
   pub below : AreHeadsBelow heads
-  pub joined : (v : ℕ) → v < length heads → IsJoinedBy links (IsMarked places heads) v (slice_index heads v)
-  pub cyclic : (v : ℕ) → v < length heads → slice_index heads v ≢ v → (u : Parent) × ((place_at places v).parent ≡ Some u) × IsOnCycle links u.link
+  pub joined : (v : ℕ) → v < length heads → IsJoinedBy links (IsMarked parents heads) v (slice_index heads v)
+  pub cyclic : (v : ℕ) → v < length heads → slice_index heads v ≢ v → (u : Parent) × (parent_at parents v ≡ Some u) × IsOnCycle links u.link
 
 -- each of the first k links is a parent link, or its ends are joined by marked links
-abbrev pub AreSpanned : List Link → List Place → List ℕ → ℕ → Type 0
-AreSpanned links places heads k = (j : ℕ) (l : Link) → j < k → slice_get links j ≡ Some l → IsParentLink places j ⊎ IsJoinedBy links (IsMarked places heads) l.a l.b
+abbrev pub AreSpanned : List Link → List (Option Parent) → List ℕ → ℕ → Type 0
+AreSpanned links parents heads k = (j : ℕ) (l : Link) → j < k → slice_get links j ≡ Some l → IsParentLink parents j ⊎ IsJoinedBy links (IsMarked parents heads) l.a l.b
 
 -- each place is its own head
 abbrev pub AreOwnHeads : List ℕ → ℕ → Type 0

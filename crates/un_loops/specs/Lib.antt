@@ -1,12 +1,9 @@
 pub mod Answer
 pub mod Forest
 pub mod Graph
-pub mod Growth
 pub mod Heads
-pub mod Incidence
 pub mod LoopList
 pub mod Loops
 pub mod Marked
 pub mod Named
 pub mod Network
-pub mod Renumbering

@@ -1,12 +1,13 @@
 //! The trace itself.
 
 ghost use Rattle.std.specs.Prelude.{◌≡◌, ◌≤◌, ◌+◌, None, IfOk, OnOk};
+ghost use Rattle.un_defs.specs.declared.walk.Mode.TheVariants.{Any};
 ghost use Rattle.un_defs.specs.Reach.{dirt};
 ghost use Rattle.un_defs.specs.Linked.{AreLinked};
 ghost use Rattle.un_walk.specs.Found.{IsFoundOver};
+ghost use Rattle.un_walk.specs.Traced.{IsTraced};
 ghost use Rattle.un_loops.specs.Answer.{reached_of, IsReachOf, OnReachCount, IsForLoops, AreLinkedOnCleanGround, loops_given_dirt, IsAnswer};
 
-use crate::nodes::open_nodes;
 use crate::segments::loop_segments;
 use std::alloc::{AllocError, Global};
 use un_ask::{Reply, Segments, TypedAsk};
@@ -23,14 +24,13 @@ fn loops_among<G: Ground>(
 ) -> Result<Reply, AllocError>
     requires reach { IsReachOf (G.stars_and_areas over.now) ask.now (reached_of found.now) }
     requires over { IsFoundOver (G.stars_and_areas over.now) found.now }
+    requires traced { IsTraced (G.stars_and_areas over.now) ask.now.barriers Any found.now }
     requires clean { dirt (G.stars_and_areas over.now) (reached_of found.now) ≡ None }
     requires linked { AreLinked (G.stars_and_areas over.now) (reached_of found.now) }
     ensures { IfOk result (λ reply. reply
         ≡ loops_given_dirt None (G.stars_and_areas over.now) ask.now (reached_of found.now)) }
 {
-    let seen = found.seen(alloc)?;
-    let opened = open_nodes(alloc, over, &seen, &ask.barriers)?;
-    let segments = loop_segments(alloc, over, found, &opened, ask.barriers.tier)?;
+    let segments = loop_segments(alloc, over, found, &ask.barriers)?;
     Ok(Reply::Loops {
         segments: Segments::new(segments),
         version: 0,

@@ -2,12 +2,12 @@
 
 ghost use Rattle.std.specs.Prelude.{◌≡◌, ◌≢◌, ℕ, ◌<◌, ◌≤◌, length, slice_index, slice_get, Some};
 ghost use Rattle.un_loops.specs.declared.link.Link.{Link};
-ghost use Rattle.un_loops.specs.declared.forest.Parent.{Parent};
+ghost use Rattle.un_loops.specs.declared.graph.Parent.{Parent};
 ghost use Rattle.un_loops.specs.Graph.{IsJoinedBy, IsOnCycle};
-ghost use Rattle.un_loops.specs.Forest.{IsForest, IsParentLink, place_at};
+ghost use Rattle.un_loops.specs.Forest.{IsForest, IsParentLink, parent_at};
 ghost use Rattle.un_loops.specs.Heads.{AreHeadsBelow, AreShortened, AreHeads, IsMarked, nth_head};
 
-use crate::forest::Place;
+use crate::graph::Parent;
 use crate::link::Link;
 
 /// The last place along heads from this one. It shortens the way for later calls.
@@ -29,44 +29,44 @@ pub(crate) fn find(heads: &mut [usize], from: usize) -> usize
 }
 
 /// Marks the parent link of the place, and finds the last place along heads from there.
-fn raise(links: &[Link], places: &[Place], heads: &mut [usize], place: usize) -> usize
-    requires forest { IsForest links.now places.now }
-    requires heads { AreHeads links.now places.now heads.old }
+fn raise(links: &[Link], parents: &[Option<Parent>], heads: &mut [usize], place: usize) -> usize
+    requires forest { IsForest links.now parents.now }
+    requires heads { AreHeads links.now parents.now heads.old }
     requires inside { place < length heads.old }
-    requires cycle { (u : Parent) × ((place_at places.now place).parent ≡ Some u)
+    requires cycle { (u : Parent) × (parent_at parents.now place ≡ Some u)
         × IsOnCycle links.now u.link }
-    ensures heads { AreHeads links.now places.now heads.new }
-    ensures kept { (j : ℕ) → IsMarked places.now heads.old j → IsMarked places.now heads.new j }
-    ensures joined { IsJoinedBy links.now (IsMarked places.now heads.new) place result }
+    ensures heads { AreHeads links.now parents.now heads.new }
+    ensures kept { (j : ℕ) → IsMarked parents.now heads.old j → IsMarked parents.now heads.new j }
+    ensures joined { IsJoinedBy links.now (IsMarked parents.now heads.new) place result }
     ensures last { slice_index heads.new result ≡ result }
     ensures less { result < place }
     ensures stays { (v : ℕ) → v < length heads.old → v ≢ place → slice_index heads.old v ≡ v
         → slice_index heads.new v ≡ v }
 {
-    let above = places[place].parent.unwrap().place;
+    let above = parents[place].unwrap().place;
     heads[place] = above;
     find(heads, above)
 }
 
 /// Marks the parent links on the cycle that the link closes.
-pub(crate) fn climb(links: &[Link], places: &[Place], heads: &mut [usize], index: usize)
-    requires forest { IsForest links.now places.now }
-    requires heads { AreHeads links.now places.now heads.old }
+pub(crate) fn climb(links: &[Link], parents: &[Option<Parent>], heads: &mut [usize], index: usize)
+    requires forest { IsForest links.now parents.now }
+    requires heads { AreHeads links.now parents.now heads.old }
     requires inside { index < length links.now }
-    requires chord { IsParentLink places.now index → ⊥ }
-    ensures heads { AreHeads links.now places.now heads.new }
-    ensures kept { (j : ℕ) → IsMarked places.now heads.old j → IsMarked places.now heads.new j }
+    requires chord { IsParentLink parents.now index → ⊥ }
+    ensures heads { AreHeads links.now parents.now heads.new }
+    ensures kept { (j : ℕ) → IsMarked parents.now heads.old j → IsMarked parents.now heads.new j }
     ensures closed { (l : Link) → slice_get links.now index ≡ Some l
-        → IsJoinedBy links.now (IsMarked places.now heads.new) l.a l.b }
+        → IsJoinedBy links.now (IsMarked parents.now heads.new) l.a l.b }
 {
     let Link { a, b } = links[index];
     let mut one = find(heads, a);
     let mut other = find(heads, b);
     while one != other {
         if one < other {
-            other = raise(links, places, heads, other);
+            other = raise(links, parents, heads, other);
         } else {
-            one = raise(links, places, heads, one);
+            one = raise(links, parents, heads, one);
         }
     }
 }

@@ -10,17 +10,18 @@
 //!
 //! # How it is found
 //!
-//! [`answer::loops`] asks `un_walk` for the reached nodes with their entries, in the order in which they were found, and for the dirt. Where
-//! there is no dirt it keeps the nodes that have an entry and are no barrier ([`nodes::open_nodes`]); from here on a node is a number, its
-//! place in that list. The walk has marked each found node that has an entry with its place among those found, and a second list turns such a
-//! place into that number ([`nodes::place_of`]). The links between the open nodes go into an indexed map by name ([`network::links_between`]).
-//! Each stands at both its ends and is taken from the one that is before the other in order. What is left is a graph, with nodes from 0 and a list of links, and the
-//! question which of these lie on a cycle ([`cycles::on_cycles`]). The answer is the names of segments among them, sorted
-//! ([`segments::loop_segments`]).
+//! [`answer::loops`] asks `un_walk` for the reached nodes with their entries, in the order in which they were found, and for the dirt. A node's
+//! place is its number in that order. The walk also tells by which links it went: for each node that is no start its origin, which is the place
+//! that it was found from and the link that led there, and for each further link that led to a node found before, at the same place or a later
+//! one, a chord. These are all links between the nodes, each once or, where it stands twice in the list of a node, twice.
 //!
-//! [`forest::spanning_forest`] takes each node that was not found yet as a root, and finds all that is joined to it, by a worklist. A node's
-//! place in the forest is its number in the order in which the nodes are found. A place that is no root has a parent, the earlier place that it
-//! was found from, and a parent link. From here on the links are between places.
+//! Where there is no dirt, [`graph::graph_of`] makes a graph of these: its nodes are the places, and its links are those of which both ends are
+//! open, with their names, which are read where they stand, in the entries ([`names::Names`]). The origins are a forest that spans it. A place
+//! that is open and no start has a parent, the earlier place that it was found from, and a parent link. A barrier is a root that no link leads
+//! to, since no walk goes on from there. A chord with the name of a parent link between the same places is that link again, and is left out.
+//!
+//! What is left is the question which links of the graph lie on a cycle ([`cycles::on_cycles`]). The answer is the names of segments among
+//! them, sorted ([`segments::loop_segments`]).
 //!
 //! Each link outside the forest closes a cycle, with the parent links from its two ends to where these meet. [`heads::climb`] marks those: it
 //! goes from both ends towards the root, always from the later of the two places, until it stands at one place. Parent links that are marked
@@ -33,8 +34,12 @@
 //! # Why that is enough
 //!
 //! That each link between reached nodes stands at both its ends, and that the links of one name join one pair of nodes, is a condition on the
-//! call. A walk that goes by a link of a reached and open node reaches the other end, so a walk over open nodes stays among those in the list. A
-//! node without an entry has no links, so it is on no walk between others and may be left out.
+//! call. A walk that goes by a link of a reached and open node reaches the other end, so a walk over open nodes stays among the places. Each
+//! link between open nodes leads from one of its ends to the same or a later place, and the walk went by it from there, so it is the origin of
+//! that place or a chord. The starts are walked from one after another, so a link never joins two trees.
+//!
+//! A chord that stands twice has two indices in the list of links with one name. That does no harm: the parent links alone join its ends, so
+//! both are on a cycle, and its name is on a loop. Each parent link has a name of its own, so a walk without its index is one without its name.
 //!
 //! Before each link is climbed: marked parent links join each place to its head; each marked parent link is on a cycle; and marked parent links
 //! join the ends of each link outside the forest that was climbed. Let a climb stand at two places, to which marked parent links join the two
@@ -49,23 +54,19 @@
 //!
 //! # What it costs
 //!
-//! Beside the walk, the other end of each link is looked up from one of its ends, as the walk does it: by a search among the entries of the
-//! star to which it leads and, where that stands at another point, one step in a hash table of points. For each link between open nodes one
-//! more step in a hash table follows. Nodes are not sorted, but the segments on loops are. The forest looks at each link twice. Each step of a
-//! climb marks a parent link, so there are at most as many steps as nodes, and each step and each link asks for a head or two. So the whole,
-//! but for the searches in stars, takes in the order of (V + E) log V at most.
+//! Beside the walk, nothing is looked up: there is no search in a star and no hash table. One pass over the places and one over the chords make
+//! the graph, in which each node is tested once for being a barrier. Each step of a climb marks a parent link, so there are at most as many
+//! steps as nodes, and each step and each link asks for a head or two. The segments on loops are sorted. So for V nodes and E links the whole
+//! takes in the order of (V + E) log V at most.
 #![tactic(auto)]
 
 pub mod answer;
 mod cycles;
-mod forest;
-mod growth;
+mod graph;
 mod heads;
-mod incidence;
 pub mod laws;
 mod link;
-mod network;
-mod nodes;
+mod names;
 mod segments;
 
 pub use answer::loops;

@@ -1,5 +1,5 @@
 -- What a walk has found, with one point more and with one node more.
-use Rattle.std.proofs.Common.{add-one, ◌≡◌, ◌⊎◌, ℕ, zero, suc, ◌+◌, ◌<◌, ◌≤◌, Bool, true, false, cond, ◌||◌, List, [], ◌∷◌, ◌++◌, map, length, get_or, set, slice_get, All, IsSome, Option, Some, None, SomeIff, IfSome, IfNone, ◌-◌, refl, sym, ap, subst, ◌∙◌, length-append, inl, inr, rules, arith}
+use Rattle.std.proofs.Common.{add-one, ◌≡◌, ◌⊎◌, ℕ, zero, suc, ◌+◌, ◌<◌, ◌≤◌, Bool, true, false, cond, ◌||◌, List, [], ◌∷◌, ◌++◌, map, length, get_or, set, slice_get, All, IsSome, Option, Some, None, refl, sym, ap, subst, ◌∙◌, length-append, inl, inr, rules, arith}
 use Rattle.std.specs.List.{IsDistinct, position_or_len}
 use Rattle.std.specs.Option.{option_map}
 use Rattle.std.proofs.Math.Seq.{map-set_same}
@@ -106,19 +106,6 @@ mark_new (x ∷ ns) n = mark_new ns n
 -- a marked node is in the list
 pub mark_has : (ns : List Node) (n : Node) (k : ℕ) → IsMark ns n (k + 1) → has_node ns n ≡ true
 mark_has ns n k h = list_any_from_among (same_node n) ns n (among_at ns k n (subst (IsMark ns n) (add-one k) h)) (node_itself n)
-
--- what a mark less 1 tells
-pub mark_tells : (ns : List Node) (n : Node) (mark : ℕ) → IsMark ns n mark → (o : Option ℕ) → SomeIff o (1 ≤ mark) (mark - 1)
-    → IfSome o (λ k. slice_get ns k ≡ Some n) × IfNone o (has_node ns n ≡ false)
-mark_tells ns n zero h (Some k) e = absurd (omega (arith, e.0))
-mark_tells ns n zero h None e = (tt, h)
-mark_tells ns n (suc j) h (Some k) e = let same : j ≡ k = omega (arith, e.1) in (subst (λ i. slice_get ns i ≡ Some n) same h, tt)
-mark_tells ns n (suc j) h None e = absurd (e (omega arith))
-
--- a mark that counts for a node with an entry alone
-pub none_with_entry : (o : Option ℕ) (P Q : Type 0) → IfNone o Q → IfNone o (P → Q)
-none_with_entry (Some k) P Q h = h
-none_with_entry None P Q h = λ _. h
 
 pub with_longer : (ns : List Node) (n : Node) → length ns ≤ length (with_node ns n)
 with_longer ns n = go (has_node ns n)
@@ -298,6 +285,10 @@ module _ (G : Ground) where
     -- a node whose mark was on is found already
     pub marked_twice : (n : Node) (number place k : ℕ) → IsNumberOf f.points n.at number → IsPlaceIn (G.stars n.at) n.port place → WasMarkedAt f.visited.items number place (k + 1) → has_node (nodes f) n ≡ true
     marked_twice n number place k h is_place was = mark_has (nodes f) n k (subst (IsMark (nodes f) n) was.2 (marked_here n number place was.0 h is_place was.1).1)
+
+    -- it stands where its mark tells
+    pub marked_place : (n : Node) (number place k : ℕ) → IsNumberOf f.points n.at number → IsPlaceIn (G.stars n.at) n.port place → WasMarkedAt f.visited.items number place (k + 1) → slice_get (nodes f) k ≡ Some n
+    marked_place n number place k h is_place was = subst (IsMark (nodes f) n) (was.2 ∙ add-one k) (marked_here n number place was.0 h is_place was.1).1
 
     -- the mark of a node once another one is found
     mark_after : (n : Node) (x : ℕ) → x ≡ length f.items.items + 1 → (m : Node) → IsSome (entry G m) → (b : Bool) → same_node m n ≡ b → IsMark (nodes f ++ n ∷ []) m (cond b x (mark_at f.visited.items m))

@@ -30,6 +30,30 @@ any_more {A} p xs k j d e l = subst (λ j. list_any p (take j xs) ≡ (list_any 
     go (y ∷ ys) zero l = last (p y)
     go (y ∷ ys) (suc k) l = ap (λ b. p y || b) (go ys k (omega arith)) ∙ joined (p y) (list_any p (take k ys)) (p (get_or ys k d))
 
+none_taken : {A : Type 0} (xs : List A) (y : A) → Among (take 0 xs) y → ⊥
+none_taken [] y h = h
+none_taken (x ∷ xs) y h = h
+
+-- what the first elements of a list have, one element further
+pub taken : {A : Type 0} (xs : List A) (k : ℕ) (d y : A) → Among (take (suc k) xs) y → Among (take k xs) y ⊎ (y ≡ get_or xs k d)
+taken [] k d y h = absurd h
+taken (x ∷ xs) zero d y h = elim h [ inl e ↦ inr (sym e) | inr rest ↦ absurd (none_taken xs y rest) ]
+taken (x ∷ xs) (suc k) d y h = elim h [
+  | inl e ↦ inl (inl e)
+  | inr rest ↦ elim (taken xs k d y rest) [ inl a ↦ inl (inr a) | inr e ↦ inr e ]
+]
+
+pub taken_kept : {A : Type 0} (xs : List A) (k : ℕ) (y : A) → Among (take k xs) y → Among (take (suc k) xs) y
+taken_kept [] zero y h = absurd h
+taken_kept [] (suc k) y h = absurd h
+taken_kept (x ∷ xs) zero y h = absurd h
+taken_kept (x ∷ xs) (suc k) y h = elim h [ inl e ↦ inl e | inr rest ↦ inr (taken_kept xs k y rest) ]
+
+pub taken_last : {A : Type 0} (xs : List A) (k : ℕ) (d : A) → k < length xs → Among (take (suc k) xs) (get_or xs k d)
+taken_last [] k d l = absurd (omega arith)
+taken_last (x ∷ xs) zero d l = inl refl
+taken_last (x ∷ xs) (suc k) d l = inr (taken_last xs k d (omega arith))
+
 -- a list has the element at each of its places
 pub contains_at : {A : Type 0} (xs : List A) (k : ℕ) (d : A) → k < length xs → Contains xs (get_or xs k d)
 contains_at {A} xs k d l = (k, l, again xs k l)

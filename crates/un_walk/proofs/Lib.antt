@@ -7,3 +7,4 @@ pub mod DirtMet
 pub mod Spreading
 pub mod Entered
 pub mod FoundOver
+pub mod Tracing

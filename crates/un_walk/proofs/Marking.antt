@@ -1,5 +1,5 @@
 -- Numbers of points, and marks on the entries of stars.
-use Rattle.std.proofs.Common.{◌≡◌, ℕ, zero, suc, ◌+◌, ◌<◌, ◌≤◌, Bool, true, false, cond, not, ◌&&◌, ◌||◌, eqb, nat_lt, List, [], ◌∷◌, ◌++◌, map, length, get_or, set, take, drop, slice_get, find, All, Option, Some, None, IfSome, IfNone, refl, sym, ap, subst, ◌∙◌, append-nil, take_all, length-append, arith, true≢false}
+use Rattle.std.proofs.Common.{◌≡◌, ℕ, zero, suc, ◌+◌, ◌<◌, ◌≤◌, Bool, true, false, cond, not, ◌&&◌, ◌||◌, eqb, nat_lt, List, [], ◌∷◌, ◌++◌, map, length, get_or, set, take, drop, slice_get, find, All, Option, Some, None, refl, sym, ap, subst, ◌∙◌, append-nil, take_all, length-append, arith, true≢false}
 use Rattle.std.specs.List.{list_any, position, position_or_len, refill}
 use Rattle.std.specs.Option.{option_map_or, option_or}
 use Rattle.std.specs.Vec.{with_items}
@@ -83,11 +83,6 @@ position_none p xs e = go (nat_lt (position_or_len p xs) (length xs)) refl e
     go : (b : Bool) → nat_lt (position_or_len p xs) (length xs) ≡ b → cond b (Some (position_or_len p xs)) None ≡ None → length xs ≤ position_or_len p xs
     go true t e = absurd (not_some (sym e))
     go false t e = grind (arith, nat_tests, t)
-
--- what a search among points tells
-pub searched : (ps : List Point) (p : Point) (o : Option ℕ) → o ≡ position (same_point p) ps → IfSome o (IsNumberOf ps p) × IfNone o (IsWithoutNumber ps p)
-searched ps p (Some k) e = (position_some (same_point p) ps k (sym e), tt)
-searched ps p None e = (tt, position_none (same_point p) ps (sym e))
 
 pub position_map : {X Y : Type 0} (f : X → Y) (p : Y → Bool) (xs : List X) → position_or_len p (map f xs) ≡ position_or_len (λ x. p (f x)) xs
 position_map f p [] = refl

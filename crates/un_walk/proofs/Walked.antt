@@ -1,15 +1,14 @@
 -- What holds of the nodes that a walk has found, of which some are done.
-use Rattle.std.proofs.Common.{◌≡◌, ℕ, zero, suc, ◌≤◌, Bool, true, List, [], ◌∷◌, ◌++◌, length, take, slice_get, Some, sym, ap, subst, ◌∙◌, inl, inr, arith}
-use Rattle.std.specs.List.{list_any}
+use Rattle.std.proofs.Common.{◌≡◌, ◌⊎◌, cond, false, refl, ℕ, zero, suc, ◌≤◌, Bool, true, List, [], ◌∷◌, ◌++◌, length, take, slice_get, Some, sym, ap, subst, ◌∙◌, inl, inr, arith}
 use Rattle.un_defs.specs.declared.port.Node.{Node}
 use Rattle.un_defs.specs.Orders.{same_node, node_cmp, rising}
 use Rattle.un_defs.specs.Reach.{Walk, IsReach}
 use Rattle.un_defs.proofs.Rising.{Among, sorted-rising}
 use Rattle.un_defs.proofs.LinkCases.{some_same}
-use Rattle.un_defs.proofs.Members.{among_left, among_cases, contains_from_among, among_from_contains, list_any_from_among, among_from_list_any}
-use Rattle.un_defs.proofs.Unique.{node_same, node_itself}
+use Rattle.un_defs.proofs.Members.{among_left, among_right, among_cases, contains_from_among, among_from_contains, among_from_list_any}
+use Rattle.un_defs.proofs.Unique.{node_same}
 use Rattle.un_defs.proofs.Walking.{walk_from_start, walk_on, is_reach}
-use Rattle.un_walk.specs.Growth.{Grows}
+use Rattle.un_walk.specs.Growth.{has_node, with_node, Grows}
 use Rattle.un_walk.proofs.Once.{node_in_order, node_from_order}
 use Rattle.un_defs.proofs.OrderLaws.{node_total}
 
@@ -42,19 +41,12 @@ pub record Walked (step : Node → Node → Bool) (starts ns : List Node) (k : �
   pub closed : (n m : Node) → Among (take k ns) n → step n m ≡ true → Among ns m
 
 module _ (step : Node → Node → Bool) (starts : List Node) where
-  pub walked_start : (ns : List Node) → Grows [] ns (λ n. list_any (λ s. same_node s n) starts) → Walked step starts ns 0
-  walked_start ns g = record {
-    sound = λ n h.
-        let h' : Among g.more n = subst (λ l. Among l n) g.is h in
-        let r = among_from_list_any (λ s. same_node s n) starts (g.only n (contains_from_among g.more n h')) in
-        walk_from_start step starts n (subst (Among starts) (node_same r.0 n r.2) r.1);
-    begin = λ n h. among_from_contains ns n (g.has n (list_any_from_among (λ s. same_node s n) starts n h (node_itself n)));
-    closed = λ n m h e. absurd (among_zero ns n h);
+  pub walked_none : (ns : List Node) → starts ≡ [] → ns ≡ [] → Walked step starts ns 0
+  walked_none ns no_start none = record {
+    sound = λ n h. absurd (subst (λ l. Among l n) none h);
+    begin = λ n h. absurd (subst (λ l. Among l n) no_start h);
+    closed = λ n m h e. absurd (among_from-take [] 0 n (subst (λ l. Among (take 0 l) n) none h));
   }
-    where
-      among_zero : (ns : List Node) (n : Node) → Among (take 0 ns) n → ⊥
-      among_zero [] n h = h
-      among_zero (m ∷ ns) n h = h
 
   pub walked_step : (ns new : List Node) (k : ℕ) (n : Node) → Walked step starts ns k → slice_get ns k ≡ Some n → Grows ns new (step n) → Walked step starts new (suc k)
   walked_step ns new k n w at g = record {
@@ -82,3 +74,51 @@ module _ (step : Node → Node → Bool) (starts : List Node) where
   walked_in_order ns k w all =
       is_reach step starts (rising node_cmp ns) (sorted-rising node_total ns) (λ n h. w.sound n (node_from_order ns n h)) (λ n h. node_in_order ns n (w.begin n h))
       (λ n m h e. node_in_order ns m (w.closed n m (among_take ns k all n (node_from_order ns n h)) e))
+
+-- one start more, where all that was found is done
+pub walked_more : (step : Node → Node → Bool) (starts more : List Node) (s : Node) → ((n : Node) → Among starts n → Among more n) → ((n : Node) → Among more n → Among starts n ⊎ (n ≡ s)) → Among more s
+    → (ns : List Node) (k : ℕ) → k ≡ length ns → Walked step starts ns k → Walked step more (with_node ns s) k
+walked_more step starts more s kept cases there ns k all w = go (has_node ns s) refl
+  where
+    sound_more : (n : Node) → Among ns n → Walk step more n
+    sound_more n h =
+        let walk = w.sound n h in
+        record {
+          first = walk.first;
+          rest = walk.rest;
+          begins = contains_from_among more walk.first (kept walk.first (among_from_contains starts walk.first walk.begins));
+          follows = walk.follows;
+          ends = walk.ends;
+        }
+
+    done_in : (n : Node) → Among (take k (ns ++ s ∷ [])) n → Among (take k ns) n
+    done_in n h = subst (λ l. Among l n) (first ns k (omega (arith, all))) h
+      where
+        first : (ns : List Node) (k : ℕ) → k ≤ length ns → take k (ns ++ s ∷ []) ≡ take k ns
+        first [] zero l = refl
+        first [] (suc k) l = absurd (omega arith)
+        first (m ∷ ns) zero l = refl
+        first (m ∷ ns) (suc k) l = ap (λ l. m ∷ l) (first ns k (omega arith))
+
+    go : (b : Bool) → has_node ns s ≡ b → Walked step more (cond b ns (ns ++ s ∷ [])) k
+    go true e = record {
+      sound = sound_more;
+      begin = λ n h. elim (cases n h) [
+        | inl old ↦ w.begin n old
+        | inr new ↦
+            let r = among_from_list_any (same_node s) ns e in
+            subst (Among ns) (sym (node_same s r.0 r.2) ∙ sym new) r.1
+      ];
+      closed = w.closed;
+    }
+    go false e = record {
+      sound = λ n h. elim (among_cases ns (s ∷ []) n h) [
+        | inl old ↦ sound_more n old
+        | inr new ↦ elim new [ inl same ↦ walk_from_start step more n (subst (Among more) same there) | inr none ↦ absurd none ]
+      ];
+      begin = λ n h. elim (cases n h) [
+        | inl old ↦ among_left ns (s ∷ []) n (w.begin n old)
+        | inr new ↦ among_right ns (s ∷ []) n (inl (sym new))
+      ];
+      closed = λ n m h next. among_left ns (s ∷ []) m (w.closed n m (done_in n h) next);
+    }

@@ -6,4 +6,5 @@ pub mod Seen
 pub mod Site
 pub mod Found
 pub mod Ticks
+pub mod Traced
 pub mod Spread

@@ -1,11 +1,13 @@
 //! The nodes that a walk has found, each once, in the order in which they were found.
 
-ghost use Rattle.std.specs.Prelude.{◌≡◌, ◌<◌, ◌≤◌, ◌+◌, ◌-◌, ◌⊎◌, ℕ, [], true, false, length, map, slice_get, Some, None, All, IsTrue, IsSome, IfSome, IfNone, IfOk, OnOk};
+ghost use Rattle.std.specs.Prelude.{◌≡◌, ◌<◌, ◌≤◌, ◌+◌, ◌++◌, ◌⊎◌, [], false, length, map, slice_get, Some, None, All, IsTrue, IsSome, IfSome, IfNone, IfOk, OnOk};
+ghost use Rattle.std.specs.Option.{option_copied};
 ghost use Rattle.un_defs.specs.Ground.{Ground, entry};
 ghost use Rattle.un_defs.specs.Orders.{same_node};
 ghost use Rattle.un_walk.specs.Growth.{has_node, with_node};
 ghost use Rattle.un_walk.specs.Seen.{spot_of};
 ghost use Rattle.un_walk.specs.Site.{IsSite};
+ghost use Rattle.un_walk.specs.Traced.{chords, IsOrigin, IsStart, chord_if, IsFoundFrom, AddsNode, AddsChord, AddsNothing, Adds};
 ghost use Rattle.un_walk.specs.Found.{seens, nodes, IsPlaceIn, IsNumberOf, IsWithoutNumber, IsUnmarked, IsInside, IsMarkedAt, WasMarkedAt, IsItemOver, IsFoundOver};
 
 use crate::points::Points;
@@ -15,7 +17,7 @@ use crate::strays::Strays;
 use crate::traversal::is_same_point;
 use smallvec::SmallVec;
 use std::alloc::{AllocError, Global};
-use un_defs::{Ground, Node};
+use un_defs::{Ground, Node, Tie};
 use un_geom::Point;
 use un_steps::Steps;
 
@@ -29,15 +31,32 @@ pub(crate) struct Visited<'a> {
     pub(crate) marks: Marks,
 }
 
-/// A found node with its entry, the number of its point, and the place in the list from which it was found.
+/// A found node with its entry, the number of its point, and the place of the node from which it was found, with the link that led to it. A
+/// start has no link, and its own place.
 #[derive(Clone, Copy)]
 pub(crate) struct Item<'a> {
     pub(crate) seen: Seen<'a>,
     pub(crate) number: usize,
     pub(crate) from: usize,
+    pub(crate) via: Option<&'a Tie>,
 }
 
-/// A list of distinct nodes that knows the places of its nodes.
+/// How a node was found: from the node at a place, by a link.
+#[derive(Clone, Copy)]
+pub struct Origin<'a> {
+    pub place: usize,
+    pub tie: &'a Tie,
+}
+
+/// A link that led a walk from the node at a place to one that it had found before, at the same place or a later one.
+#[derive(Clone, Copy)]
+pub struct Chord<'a> {
+    pub from: usize,
+    pub to: usize,
+    pub tie: &'a Tie,
+}
+
+/// A list of distinct nodes that knows how each was found, and which links led to nodes found before.
 #[derive(Drop)]
 pub struct Found<'a> {
     pub(crate) points: Points,
@@ -46,6 +65,7 @@ pub struct Found<'a> {
     /// The nodes without an entry, which have no mark.
     pub(crate) strays: Strays,
     pub(crate) items: Vec<Item<'a>>,
+    pub(crate) chords: Vec<Chord<'a>>,
 }
 
 fn is_same_node(a: Node, b: Node) -> bool
@@ -70,18 +90,18 @@ fn unmarked<'a, G: Ground, L>(
     Ok(Visited { site, marks })
 }
 
-// Puts a mark at the entry of a star, unless it has one. Whether it had none.
-fn put_mark(visited: &mut [Visited], number: usize, place: usize, mark: usize) -> bool
+// Puts a mark at the entry of a star, unless it has one. The mark that was there, which is 0 for none.
+fn put_mark(visited: &mut [Visited], number: usize, place: usize, mark: usize) -> usize
     requires { IsInside visited.old number place }
-    ensures new { result ≡ true → IsMarkedAt visited.old visited.new number place mark }
-    ensures old { result ≡ false → (visited.new ≡ visited.old)
-        × ((k : ℕ) × WasMarkedAt visited.old number place (k + 1)) }
+    ensures new { result ≡ 0 → IsMarkedAt visited.old visited.new number place mark }
+    ensures old { 0 < result → (visited.new ≡ visited.old)
+        × WasMarkedAt visited.old number place result }
 {
-    if visited[number].marks[place] != 0 {
-        return false;
+    let old = visited[number].marks[place];
+    if old == 0 {
+        visited[number].marks[place] = mark;
     }
-    visited[number].marks[place] = mark;
-    true
+    old
 }
 
 fn nodes_in(alloc: Global, items: &[Item]) -> Result<Vec<Node>, AllocError>
@@ -93,6 +113,7 @@ fn nodes_in(alloc: Global, items: &[Item]) -> Result<Vec<Node>, AllocError>
 impl<'a> Found<'a> {
     pub(crate) fn new(alloc: Global) -> Self
         ensures empty { nodes result ≡ [] }
+        ensures no_chords { chords result ≡ [] }
         ensures over { (G : Ground) → IsFoundOver G result }
     {
         Found {
@@ -100,14 +121,25 @@ impl<'a> Found<'a> {
             visited: Vec::new(alloc),
             strays: Strays::new(alloc),
             items: Vec::new(alloc),
+            chords: Vec::new(alloc),
         }
     }
 
     /// How many nodes there are.
-    pub(crate) fn len(&self) -> usize
+    pub fn len(&self) -> usize
         ensures { result ≡ length (nodes self.now) }
     {
         self.items.len()
+    }
+
+    /// The node at a place with its entry. The ground is there for the contract alone.
+    pub fn seen_at<G: Ground>(&self, _over: &G, place: usize) -> Seen<'a>
+        requires over { IsFoundOver (G.stars_and_areas _over.now) self.now }
+        requires inside { place < length (nodes self.now) }
+        ensures node { slice_get (nodes self.now) place ≡ Some result.node }
+        ensures entry { spot_of result ≡ entry (G.stars_and_areas _over.now) result.node }
+    {
+        self.items[place].seen
     }
 
     /// The node at a place with its entry, and what the ground has at its point. The ground is there for the contract alone.
@@ -123,8 +155,29 @@ impl<'a> Found<'a> {
         (item.seen, self.visited[item.number].site)
     }
 
+    /// How the node at a place was found, unless it is a start.
+    pub fn origin(&self, place: usize) -> Option<Origin<'a>>
+        requires { place < length (nodes self.now) }
+        ensures some { IfSome result (λ o. IsOrigin self.now o.place place o.tie.now) }
+        ensures none { IfNone result (IsStart self.now place) }
+    {
+        let item = self.items[place];
+        let tie = item.via?;
+        Some(Origin {
+            place: item.from,
+            tie,
+        })
+    }
+
+    /// The links that led to nodes found before, at the same place or a later one, in the order in which they were met.
+    pub fn chords(&self) -> &[Chord<'a>]
+        ensures { result.now ≡ chords self.now }
+    {
+        self.chords.as_slice()
+    }
+
     /// The nodes with their entries, in the order in which they were found.
-    pub fn seen(&self, alloc: Global) -> Result<Vec<Seen<'a>>, AllocError>
+    pub(crate) fn seen(&self, alloc: Global) -> Result<Vec<Seen<'a>>, AllocError>
         ensures { IfOk result (λ seen. seen.items ≡ seens self.now) }
     {
         self.items.iter().map(|item| item.seen).collect(alloc)
@@ -137,15 +190,32 @@ impl<'a> Found<'a> {
         nodes_in(alloc, self.items.as_slice())
     }
 
-    // Whether the node at the place was found from this one. Nothing is looked up for that.
+    // Whether the node at the place was found from this one, by a link. Nothing is looked up for that.
     fn was_found_from(&self, place: usize, node: Node) -> bool
         requires { All (λ i. i.from < length self.now.items.items) self.now.items.items }
-        ensures { IsTrue result → IsTrue (has_node (nodes self.now) node) }
+        ensures found { IsTrue result → IsTrue (has_node (nodes self.now) node) }
+        ensures from { IsTrue result → IsFoundFrom self.now place node }
     {
         match self.items.get(place) {
-            Some(item) => is_same_node(self.items[item.from].seen.node, node),
-            None => false,
+            Some(item) if item.via.is_some() => is_same_node(self.items[item.from].seen.node, node),
+            _ => false,
         }
+    }
+
+    // Adds a chord, if a link led from the one place to the other, and the other is the same or a later one.
+    fn add_chord(&mut self, from: usize, to: usize, via: Option<&'a Tie>) -> Result<(), AllocError>
+        ensures chords { OnOk result (chords self.new ≡ chords self.old ++ chord_if from to via.entry) }
+        ensures points { self.new.points ≡ self.old.points }
+        ensures visited { self.new.visited ≡ self.old.visited }
+        ensures strays { self.new.strays ≡ self.old.strays }
+        ensures items { self.new.items ≡ self.old.items }
+    {
+        if let Some(tie) = via {
+            if from <= to {
+                self.chords.push(Chord { from, to, tie })?;
+            }
+        }
+        Ok(())
     }
 
     // The number of a point. What the ground has there is looked up where the point had no number.
@@ -159,6 +229,7 @@ impl<'a> Found<'a> {
         requires { IsFoundOver (G.stars_and_areas over.now) self.old }
         ensures over { OnOk result (IsFoundOver (G.stars_and_areas over.now) self.new) }
         ensures items { OnOk result (self.new.items ≡ self.old.items) }
+        ensures chords { OnOk result (self.new.chords ≡ self.old.chords) }
         ensures number { IfOk result (IsNumberOf self.new.points at) }
         ensures once { OnOk result ((steps.new ≡ steps.old)
             ⊎ ((steps.new ≤ steps.old + 1) × IsWithoutNumber self.old.points at)) }
@@ -186,6 +257,7 @@ impl<'a> Found<'a> {
         requires { IsFoundOver (G.stars_and_areas over.now) self.old }
         ensures over { OnOk result (IsFoundOver (G.stars_and_areas over.now) self.new) }
         ensures items { OnOk result (self.new.items ≡ self.old.items) }
+        ensures chords { OnOk result (self.new.chords ≡ self.old.chords) }
         ensures number { IfOk result (IsNumberOf self.new.points at) }
         ensures once { OnOk result ((steps.new ≡ steps.old)
             ⊎ ((steps.new ≤ steps.old + 1) × IsWithoutNumber self.old.points at)) }
@@ -195,32 +267,6 @@ impl<'a> Found<'a> {
             Some(item) if is_same_point(item.seen.node.at, at) => Ok(item.number),
             _ => self.number(alloc, over, at, steps),
         }
-    }
-
-    // The number of a point, if it has one. A node at the place `from` that stands there tells it.
-    fn known_number(&self, from: usize, at: Point) -> Option<usize>
-        requires { All (λ i. IsNumberOf self.now.points i.seen.node.at i.number) self.now.items.items }
-        ensures some { IfSome result (IsNumberOf self.now.points at) }
-        ensures none { IfNone result (IsWithoutNumber self.now.points at) }
-    {
-        match self.items.get(from) {
-            Some(item) if is_same_point(item.seen.node.at, at) => Some(item.number),
-            _ => self.points.find(at),
-        }
-    }
-
-    /// The place of a node that has an entry, if it was found. It is sought from the node at the place `from`, which mostly stands at the same
-    /// point. The ground is there for the contract alone.
-    pub fn place_from<G: Ground>(&self, _over: &G, from: usize, node: Node) -> Option<usize>
-        requires { IsFoundOver (G.stars_and_areas _over.now) self.now }
-        ensures some { IfSome result (λ place. slice_get (nodes self.now) place ≡ Some node) }
-        ensures none { IfNone result (IsSome (entry (G.stars_and_areas _over.now) node)
-            → has_node (nodes self.now) node ≡ false) }
-    {
-        let number = self.known_number(from, node.at)?;
-        let visited = &self.visited[number];
-        let place = visited.site.place(node.port)?;
-        visited.marks[place].checked_sub(1)
     }
 
     // Adds a node with the entry at the place, unless it is marked. The ground is there for the contract alone.
@@ -235,12 +281,19 @@ impl<'a> Found<'a> {
         requires place { IsPlaceIn ((G.stars_and_areas _over.now).stars item.seen.node.at) item.seen.node.port place }
         ensures over { OnOk result (IsFoundOver (G.stars_and_areas _over.now) self.new) }
         ensures nodes { OnOk result (nodes self.new ≡ with_node (nodes self.old) item.entry.seen.node) }
+        ensures adds { OnOk result
+            (AddsNode self.old self.new item.entry.seen.node item.entry.from item.entry.via
+            ⊎ AddsChord self.old self.new item.entry.seen.node item.entry.from item.entry.via) }
     {
         let mark = self.items.len() + 1;
-        if put_mark(self.visited.as_mut_slice(), item.number, place, mark) {
-            self.items.push(item)?;
+        let old = put_mark(self.visited.as_mut_slice(), item.number, place, mark);
+        match old.checked_sub(1) {
+            Some(there) => self.add_chord(item.from, there, item.via),
+            None => {
+                self.items.push(item)?;
+                Ok(())
+            }
         }
-        Ok(())
     }
 
     // Adds a node without an entry, unless it is among the strays. The ground is there for the contract alone.
@@ -250,6 +303,9 @@ impl<'a> Found<'a> {
         requires none { entry (G.stars_and_areas _over.now) item.seen.node ≡ None }
         ensures over { OnOk result (IsFoundOver (G.stars_and_areas _over.now) self.new) }
         ensures nodes { OnOk result (nodes self.new ≡ with_node (nodes self.old) item.entry.seen.node) }
+        ensures adds { OnOk result
+            (AddsNode self.old self.new item.entry.seen.node item.entry.from item.entry.via
+            ⊎ AddsNothing (G.stars_and_areas _over.now) self.old self.new item.entry.seen.node item.entry.from) }
     {
         if self.strays.add(item.seen.node)? {
             self.items.push(item)?;
@@ -257,19 +313,22 @@ impl<'a> Found<'a> {
         Ok(())
     }
 
-    /// Adds the node at the end, unless it is there. It is a start, and `from` is 0, or a link leads to it from the node at the place `from`.
+    /// Adds the node at the end, unless it is there. A link leads to it from the node at the place `from`, or it is a start, and `from` is the
+    /// number of nodes found before.
     pub(crate) fn add<G: Ground, L>(
         &mut self,
         alloc: Global,
         over: &'a G,
         node: Node,
         from: usize,
+        via: Option<&'a Tie>,
         steps: &mut Steps<L>,
     ) -> Result<(), AllocError>
         requires over { IsFoundOver (G.stars_and_areas over.now) self.old }
-        requires from { from ≤ length (nodes self.old) - 1 }
+        requires from { from ≤ length (nodes self.old) }
         ensures over { OnOk result (IsFoundOver (G.stars_and_areas over.now) self.new) }
         ensures nodes { OnOk result (nodes self.new ≡ with_node (nodes self.old) node) }
+        ensures adds { OnOk result (Adds (G.stars_and_areas over.now) self.old self.new node from via.entry) }
         // A star is looked up where the node is the first at its point.
         ensures once { OnOk result
             (steps.new + length (nodes self.old) ≤ steps.old + length (nodes self.new)) }
@@ -284,11 +343,23 @@ impl<'a> Found<'a> {
             Some(place) => {
                 let spot = site.spot_at(place);
                 let seen = Seen { node, spot };
-                self.add_marked(over, Item { seen, number, from }, place)
+                let item = Item {
+                    seen,
+                    number,
+                    from,
+                    via,
+                };
+                self.add_marked(over, item, place)
             }
             None => {
                 let seen = Seen { node, spot: None };
-                self.add_stray(over, Item { seen, number, from })
+                let item = Item {
+                    seen,
+                    number,
+                    from,
+                    via,
+                };
+                self.add_stray(over, item)
             }
         }
     }

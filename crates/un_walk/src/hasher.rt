@@ -1,4 +1,4 @@
-//! A hasher for keys made of numbers of at most eight bytes, as nodes and the names of links are.
+//! A hasher for keys made of numbers of at most eight bytes, as points and nodes are.
 
 ghost use Rattle.std.specs.Prelude.{◌≡◌};
 ghost use Rattle.un_walk.specs.Hashing.{number, folded_product};

@@ -11,9 +11,9 @@
 //!
 //! # How it is found
 //!
-//! [`walk::reach_found`] keeps the nodes found so far in a list ([`found::Found`]), which has each once and in the order of finding: first the
-//! starts, then each further node as it is found. It takes the nodes in this order. If a walk may go on from a node, it adds what the node's
-//! links lead to, unless it is there ([`walk::visit`], [`traversal::follow`]).
+//! [`walk::reach_found`] keeps the nodes found so far in a list ([`found::Found`]), which has each once and in the order of finding, and takes
+//! them in this order. If a walk may go on from a node, it adds what the node's links lead to, unless it is there ([`walk::visit`],
+//! [`traversal::follow`]). When it has taken all that were found, it adds the next start, unless that was reached from the starts before.
 //!
 //! Points at which a node was found have numbers ([`points::Points`]), and for each the list keeps what the ground has there, the star and
 //! the least dirty area ([`site::Site`]), and a mark for each entry of the star: the place of its node in the list, if it was found. So the
@@ -21,14 +21,20 @@
 //! ([`strays::Strays`]). Most links stay at a point, and lead to a node whose point's number is known. Of the others, most lead to where their
 //! node was found from: the list remembers that place for each node, and such a link needs no look-up at all.
 //!
+//! The list also remembers by which link each node was found ([`found::Origin`]). These links make a forest over the places in the list, with
+//! the starts as roots. A link that leads to a node found before, at the same place or a later one, is a chord ([`found::Chord`]), and chords are
+//! kept in a list of their own. Where each link stands at both its ends, the links of the forest and the chords are all by which a walk goes,
+//! each from the earlier of its ends. Since one start is done before the next one is begun, the places of one tree follow each other, and a
+//! chord joins two places of one tree.
+//!
 //! It is done once it has taken the last node. The dirt is kept on the way: the least so far, by area, then port ([`dirt::dirt_after`]). So
 //! are the entries of the nodes, which callers need for their results. [`walk::reach_found`] answers the list itself, for callers that ask for
-//! the places of nodes; [`walk::reach_seen`] the nodes with their entries, sorted, and [`walk::reach`] the nodes alone.
+//! the forest and the chords; [`walk::reach_seen`] the nodes with their entries, sorted, and [`walk::reach`] the nodes alone.
 //!
 //! # Why that is enough
 //!
 //! Three facts hold before each node is taken. Each node of the list is reached, since it is a start or a link leads to it from a node of the
-//! list that is open. Each start is in the list. Each node to which a walk goes on from a node that was taken is in the list. When all have
+//! list that is open. Each start that was begun is in the list. Each node to which a walk goes on from a node that was taken is in the list. When all have
 //! been taken, the third fact says that no walk leaves the list, so it has exactly the reached nodes.
 //!
 //! A set of the ground's nodes is not known to be finite, but a list in memory has fewer than 2^64 nodes, so it comes to an end, or to the
@@ -48,7 +54,7 @@
 mod dirt;
 mod entries;
 pub mod found;
-pub mod hasher;
+mod hasher;
 mod points;
 pub mod seen;
 mod site;
@@ -56,6 +62,6 @@ mod strays;
 mod traversal;
 pub mod walk;
 
-pub use found::Found;
+pub use found::{Chord, Found, Origin};
 pub use seen::Seen;
 pub use walk::{Reached, ReachedFound, ReachedSeen, reach, reach_found, reach_seen};

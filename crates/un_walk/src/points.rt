@@ -1,8 +1,6 @@
 //! The points at which a walk has found nodes, with their numbers.
 
 ghost use Rattle.std.specs.Prelude.{◌≡◌, [], IfOk, OnOk};
-ghost use Rattle.std.specs.List.{position};
-ghost use Rattle.un_geom.specs.Places.{same_point};
 ghost use Rattle.un_walk.specs.Found.{number_of, with_point};
 
 use crate::hasher::NumberHasher;
@@ -43,12 +41,5 @@ impl Points {
     {
         let (number, _is_new) = self.points.insert_full(at)?;
         Ok(number)
-    }
-
-    /// The number of a point, if it has one.
-    pub(crate) fn find(&self, at: Point) -> Option<usize>
-        ensures { result ≡ position (same_point at) self.now }
-    {
-        self.points.get_index_of(&at)
     }
 }

@@ -1,13 +1,14 @@
 //! The links by which a walk goes on from a node.
 
-ghost use Rattle.std.specs.Prelude.{◌≡◌, ◌<◌, ◌≤◌, ◌+◌, ◌&&◌, ◌⊎◌, not, length, Some, None, IsTrue, OnOk};
+ghost use Rattle.std.specs.Prelude.{◌≡◌, ◌≤◌, ◌+◌, ◌&&◌, ◌⊎◌, not, true, length, slice_get, Some, None, IsTrue, OnOk};
 ghost use Rattle.std.specs.List.{list_any};
 ghost use Rattle.un_geom.specs.Places.{same_point};
 ghost use Rattle.un_defs.specs.Ground.{entry, ties};
-ghost use Rattle.un_defs.specs.Reach.{mode_takes, is_path, is_shut, controls, goes_by};
+ghost use Rattle.un_defs.specs.Reach.{mode_takes, is_path, is_shut, controls, goes_by, is_open};
 ghost use Rattle.un_walk.specs.Found.{nodes, IsFoundOver};
 ghost use Rattle.un_walk.specs.Growth.{Grows};
 ghost use Rattle.un_walk.specs.Ticks.{TiesStay, TieStays};
+ghost use Rattle.un_walk.specs.Traced.{Traces, AreDoneBefore};
 
 use crate::entries::is_controlled;
 use crate::found::Found;
@@ -115,27 +116,32 @@ fn goes_by<G: Ground, L>(
 pub(crate) fn follow<'a, G: Ground, L>(
     alloc: Global,
     over: &'a G,
-    place: &Place,
+    place: &Place<'a>,
     mode: Mode,
     barriers: &Barriers,
     found: &mut Found<'a>,
     steps: &mut Steps<L>,
 ) -> Result<(), AllocError>
     requires over { IsFoundOver (G.stars_and_areas over.now) found.old }
-    requires found { place.now.number < length (nodes found.old) }
+    requires found { slice_get (nodes found.old) place.now.number ≡ Some place.now.node }
+    requires opened { is_open (G.stars_and_areas over.now) barriers.now place.now.node ≡ true }
+    requires traces { Traces (G.stars_and_areas over.now) barriers.now mode found.old place.now.number
+        (AreDoneBefore place.now.number) }
     requires star { place.now.star.now ≡ (G.stars_and_areas over.now).stars place.now.node.at }
     requires entry { entry (G.stars_and_areas over.now) place.now.node ≡ Some place.now.spot.now }
     ensures over { OnOk result (IsFoundOver (G.stars_and_areas over.now) found.new) }
     ensures next { OnOk result (Grows (nodes found.old) (nodes found.new)
         (λ m. list_any (goes_by (G.stars_and_areas over.now) barriers.now mode place.now.node m)
         (ties (G.stars_and_areas over.now) place.now.node))) }
+    ensures traces { OnOk result (Traces (G.stars_and_areas over.now) barriers.now mode found.new
+        (place.now.number + 1) (AreDoneBefore (place.now.number + 1))) }
     ensures once { TiesStay (G.stars_and_areas over.now) barriers.now place.now.node
         → OnOk result (steps.new + length (nodes found.old) ≤ steps.old + length (nodes found.new)) }
     ensures never_falls { steps.old ≤ steps.new }
 {
     for tie in place.spot.ties.as_slice() {
         if goes_by(over, place, tie, mode, barriers, steps) {
-            found.add(alloc, over, tie.to, place.number, steps)?;
+            found.add(alloc, over, tie.to, place.number, Some(tie), steps)?;
         }
     }
     Ok(())

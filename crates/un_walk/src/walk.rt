@@ -1,16 +1,16 @@
 //! The walk itself: the nodes that were found are taken in order, each once.
 
-ghost use Rattle.std.specs.Prelude.{◌≡◌, ◌<◌, ◌≤◌, ◌+◌, ◌&&◌, [], length, IfOk, OnOk};
-ghost use Rattle.std.specs.List.{list_any};
+ghost use Rattle.std.specs.Prelude.{◌≡◌, ◌≤◌, ◌+◌, ◌&&◌, length, slice_get, Some, IfOk, OnOk};
 ghost use Rattle.std.specs.List.Sorted.{IsPermutation, IsSorted};
 ghost use Rattle.un_defs.specs.Ground.{entry};
-ghost use Rattle.un_defs.specs.Orders.{same_node, node_cmp, rising};
+ghost use Rattle.un_defs.specs.Orders.{node_cmp, rising};
 ghost use Rattle.un_defs.specs.Reach.{IsReach, leads, dirt, meets_condition};
 ghost use Rattle.un_walk.specs.Found.{nodes, IsFoundOver};
 ghost use Rattle.un_walk.specs.Growth.{Grows};
 ghost use Rattle.un_walk.specs.Seen.{nodes_of, spot_of, HaveEntries};
 ghost use Rattle.un_walk.specs.Site.{IsSite};
 ghost use Rattle.un_walk.specs.Ticks.{IsLookedUpOnce};
+ghost use Rattle.un_walk.specs.Traced.{Traces, AreDoneBefore, IsTraced};
 
 use crate::dirt::dirt_after;
 use crate::found::Found;
@@ -69,27 +69,6 @@ fn sort(nodes: &mut Vec<Node>)
     nodes.sort_unstable();
 }
 
-fn add_starts<'a, G: Ground, L>(
-    alloc: Global,
-    over: &'a G,
-    starts: &[Node],
-    found: &mut Found<'a>,
-    steps: &mut Steps<L>,
-) -> Result<(), AllocError>
-    requires over { IsFoundOver (G.stars_and_areas over.now) found.old }
-    requires empty { nodes found.old ≡ [] }
-    ensures over { OnOk result (IsFoundOver (G.stars_and_areas over.now) found.new) }
-    ensures starts { OnOk result
-        (Grows [] (nodes found.new) (λ n. list_any (λ s. same_node s n) starts.now)) }
-    ensures once { OnOk result (steps.new ≤ steps.old + length (nodes found.new)) }
-    ensures never_falls { steps.old ≤ steps.new }
-{
-    for start in starts {
-        found.add(alloc, over, *start, 0, steps)?;
-    }
-    Ok(())
-}
-
 fn is_shut_by_dirt(barriers: &Barriers, dirty_here: bool) -> bool
     ensures { result ≡ (barriers.now.consistent && dirty_here) }
 {
@@ -106,22 +85,26 @@ fn is_shut_by_barrier(barriers: &Barriers, spot: &Spot) -> bool
 fn visit<'a, G: Ground, L>(
     alloc: Global,
     over: &'a G,
-    one: &Seen,
+    one: &Seen<'a>,
     number: usize,
-    site: &Site,
+    site: &Site<'a>,
     mode: Mode,
     barriers: &Barriers,
     found: &mut Found<'a>,
     steps: &mut Steps<L>,
 ) -> Result<(), AllocError>
     requires over { IsFoundOver (G.stars_and_areas over.now) found.old }
-    requires found { number < length (nodes found.old) }
+    requires found { slice_get (nodes found.old) number ≡ Some one.now.node }
+    requires traces { Traces (G.stars_and_areas over.now) barriers.now mode found.old number
+        (AreDoneBefore number) }
     requires site { IsSite (G.stars_and_areas over.now) site.now }
     requires at { site.now.at ≡ one.now.node.at }
     requires entry { spot_of one.now ≡ entry (G.stars_and_areas over.now) one.now.node }
     ensures over { OnOk result (IsFoundOver (G.stars_and_areas over.now) found.new) }
     ensures next { OnOk result (Grows (nodes found.old) (nodes found.new)
         (leads (G.stars_and_areas over.now) barriers.now mode one.now.node)) }
+    ensures traces { OnOk result (Traces (G.stars_and_areas over.now) barriers.now mode found.new (number + 1)
+        (AreDoneBefore (number + 1))) }
     ensures once { IsLookedUpOnce (G.stars_and_areas over.now) barriers.now
         → OnOk result (steps.new + length (nodes found.old) ≤ steps.old + length (nodes found.new)) }
     ensures never_falls { steps.old ≤ steps.new }
@@ -170,29 +153,38 @@ pub fn reach_found<'a, G: Ground, L>(
     steps: &mut Steps<L>,
 ) -> Result<ReachedFound<'a>, AllocError>
     // In order, the nodes are exactly those in which a walk ends.
-    ensures nodes { IfOk result (λ r. IsReach (leads (G.stars_and_areas over.now) barriers.now mode) starts.now
+    ensures nodes { IfOk result
+        (λ r. IsReach (leads (G.stars_and_areas over.now) barriers.now mode) starts.now
         (rising node_cmp (nodes r.found))) }
     ensures over { IfOk result (λ r. IsFoundOver (G.stars_and_areas over.now) r.found) }
     // The least area that covers one of them, and the least port of those that it covers.
     ensures dirt { IfOk result (λ r. r.dirt
         ≡ dirt (G.stars_and_areas over.now) (rising node_cmp (nodes r.found))) }
+    // The links by which they were found, and the chords.
+    ensures traced { IfOk result (λ r. IsTraced (G.stars_and_areas over.now) barriers.now mode r.found) }
 
     // No more stars are looked up than nodes are reached.
     ensures ticks { IsLookedUpOnce (G.stars_and_areas over.now) barriers.now
-        → IfOk result (λ r. steps.new ≤ steps.old + length (rising node_cmp (nodes r.found))) }
+        → IfOk result
+        (λ r. steps.new ≤ steps.old + length (rising node_cmp (nodes r.found))) }
     ensures never_falls { steps.old ≤ steps.new }
 {
     let mut found = Found::new(alloc);
-    add_starts(alloc, over, starts, &mut found, steps)?;
     let mut least = None;
+    let mut begun = 0;
     let mut next = 0;
-    while next < found.len() {
-        let (one, site) = found.at(over, next);
-        least = dirt_after(least, site.area, one.node.port);
-        visit(
-            alloc, over, &one, next, &site, mode, barriers, &mut found, steps,
-        )?;
-        next += 1;
+    while begun < starts.len() || next < found.len() {
+        if next == found.len() {
+            found.add(alloc, over, starts[begun], next, None, steps)?;
+            begun += 1;
+        } else {
+            let (one, site) = found.at(over, next);
+            least = dirt_after(least, site.area, one.node.port);
+            visit(
+                alloc, over, &one, next, &site, mode, barriers, &mut found, steps,
+            )?;
+            next += 1;
+        }
     }
     Ok(ReachedFound { found, dirt: least })
 }

@@ -1,4 +1,4 @@
-use Rattle.std.proofs.Common.{◌≡◌, false, List, sym, ap, subst, ◌∙◌}
+use Rattle.std.proofs.Common.{◌≡◌, false, List, sym, ap, subst}
 use Rattle.std.specs.Prelude.{Contains}
 use Rattle.std.specs.List.Sorted.{IsStrictlySortedBy}
 use Rattle.un_defs.specs.declared.port.Node.{Node}
@@ -6,45 +6,29 @@ use Rattle.un_defs.specs.Ground.{is_dirty}
 use Rattle.un_defs.proofs.FreshLinked.{clean}
 use Rattle.un_defs.proofs.Members.{among_from_contains}
 use Rattle.un_walk.specs.Found.{nodes as found_nodes}
-use Rattle.un_walk.specs.Seen.{nodes_of, HaveEntries}
 use Rattle.un_ask.specs.declared.results.Segment.{Segment}
 use Rattle.un_ask.specs.declared.reply.Reply.TheVariants.{Loops}
-use Rattle.un_loops.specs.declared.nodes.OpenNodes.{OpenNodes}
 use Rattle.un_loops.specs.Answer.{reached_of}
 use Rattle.un_loops.specs.Loops.{segment_cmp, AreLoops}
-use Rattle.un_loops.specs.Network.{IsOpenPart}
 use Rattle.un_loops.proofs.Listing.{only_list}
 use Rattle.un_loops.proofs.OverGround.{well_linked, loop_is}
 use Rattle.un_loops.proofs.answer.loops_among.Goals as goal
 
-pub open_nodes-requires : goal.open_nodes-requires
-open_nodes-requires g c =
-    subst (HaveEntries (g.G.Ground.stars_and_areas c.args.over.now)) (sym (c.deref.ensures.value ∙ c.in_ok-seen.ensures)) c.requires.over.entries
-
-pub loop_segments-requires : goal.loop_segments-requires
-loop_segments-requires g c =
+pub loop_segments-requires-clause-linked : goal.loop_segments-requires-clause-linked
+loop_segments-requires-clause-linked g c =
     let G = g.G.Ground.stars_and_areas c.args.over.now in
     let ask = c.args.ask.now in
-    let found : List Node = found_nodes c.args.found.now in
     let reached : List Node = reached_of c.args.found.now in
-    let opened : OpenNodes = c.in_ok-opened.opened in
     let is_clean : (n : Node) → Contains reached n → is_dirty G n.at ≡ false = λ n h. clean G reached c.requires.clean n (among_from_contains reached n h) in
-    let part : IsOpenPart G ask.barriers found opened = subst (λ l. IsOpenPart G ask.barriers (nodes_of l) opened) (c.deref.ensures.value ∙ c.in_ok-seen.ensures) c.in_ok-opened.ensures in
-    record {
-      opened = record { over = c.requires.over; barriers = ask.barriers; part = part };
-      linked = well_linked G ask.barriers ask.starts found c.requires.reach is_clean c.requires.linked c.requires.over.distinct opened.nodes.items part.are;
-    }
+    well_linked G ask.barriers ask.starts (found_nodes c.args.found.now) c.requires.reach is_clean c.requires.linked c.requires.over.distinct
 
 pub returns : goal.returns
 returns g c =
     let G = g.G.Ground.stars_and_areas c.args.over.now in
     let ask = c.args.ask.now in
-    let found : List Node = found_nodes c.args.found.now in
     let reached : List Node = reached_of c.args.found.now in
-    let opened : OpenNodes = c.in_ok-opened.opened in
     let is_clean : (n : Node) → Contains reached n → is_dirty G n.at ≡ false = λ n h. clean G reached c.requires.clean n (among_from_contains reached n h) in
-    let part : IsOpenPart G ask.barriers found opened = subst (λ l. IsOpenPart G ask.barriers (nodes_of l) opened) (c.deref.ensures.value ∙ c.in_ok-seen.ensures) c.in_ok-opened.ensures in
-    let loops = loop_is G ask.barriers ask.starts found c.requires.reach is_clean c.requires.linked c.requires.over.distinct opened.nodes.items part.are in
+    let loops = loop_is G ask.barriers ask.starts (found_nodes c.args.found.now) c.requires.reach is_clean c.requires.linked c.requires.over.distinct in
     let answer = c.in_ok-segments.ensures in
     let items = c.new.ensures in
     let listed : AreLoops G ask.barriers reached c.new.result = record {

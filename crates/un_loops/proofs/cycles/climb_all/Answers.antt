@@ -20,21 +20,21 @@ climb-requires-clause-chord c = at_none c.child_end.result c.is_none.result _ _ 
 pub loop-index-preserved : goal.loop-index-preserved
 loop-index-preserved c =
     let links = c.args.links.now in
-    let places = c.args.places.now in
+    let parents = c.args.parents.now in
     let k = c.loop-index.index in
     let i = c.loop-index.invariant in
     elim c.if-is_none.branch [
       | then-is_none w ↦ record {
-        heads = subst (AreHeads links places) (sym w.heads-is) w.climb.ensures.heads;
-        spanned = subst (λ h. AreSpanned links places h (k + 1)) (sym w.heads-is)
-            (spanned_more links places c.loop-index.heads w.climb.new.heads k (k + 1) refl i.spanned w.climb.ensures.kept (λ l at. inr (w.climb.ensures.closed l at)));
+        heads = subst (AreHeads links parents) (sym w.heads-is) w.climb.ensures.heads;
+        spanned = subst (λ h. AreSpanned links parents h (k + 1)) (sym w.heads-is)
+            (spanned_more links parents c.loop-index.heads w.climb.new.heads k (k + 1) refl i.spanned w.climb.ensures.kept (λ l at. inr (w.climb.ensures.closed l at)));
       }
       | else-is_none w ↦
           let way = at_some c.child_end.result c.is_none.result _ _ c.is_none.ensures w.if-is_none.false c.child_end.ensures in
-          let here : IsParentLink places k = (way.0, way.1.0, way.1.1, way.1.2, way.1.3) in
+          let here : IsParentLink parents k = (way.0, way.1.0, way.1.1, way.1.2, way.1.3) in
           record {
-            heads = subst (AreHeads links places) (sym w.heads-is) i.heads;
-            spanned = subst (λ h. AreSpanned links places h (k + 1)) (sym w.heads-is)
-                (spanned_more links places c.loop-index.heads c.loop-index.heads k (k + 1) refl i.spanned (λ j m. m) (λ l at. inl here));
+            heads = subst (AreHeads links parents) (sym w.heads-is) i.heads;
+            spanned = subst (λ h. AreSpanned links parents h (k + 1)) (sym w.heads-is)
+                (spanned_more links parents c.loop-index.heads c.loop-index.heads k (k + 1) refl i.spanned (λ j m. m) (λ l at. inl here));
           }
     ]

@@ -3,6 +3,6 @@ use Rattle.un_loops.proofs.cycles.climb_all.Given as goal
 
 abbrev pub invariant-loop-index : goal.invariant-loop-index
 invariant-loop-index l = record {
-  heads : AreHeads l.links l.places l.heads;
-  spanned : AreSpanned l.links l.places l.heads l.index;
+  heads : AreHeads l.links l.parents l.heads;
+  spanned : AreSpanned l.links l.parents l.heads l.index;
 }

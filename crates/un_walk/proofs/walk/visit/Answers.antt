@@ -10,7 +10,8 @@ use Rattle.un_walk.specs.Found.{nodes}
 use Rattle.un_walk.specs.Site.{star_of, IsSite}
 use Rattle.un_walk.proofs.DirtMet.{is_dirty_by}
 use Rattle.un_walk.proofs.Growing.{grows_none, grows_same}
-use Rattle.un_walk.proofs.LinkTests.{leads_not, leads_nowhere, leads_open, shut_by_dirt, shut_by_stop, is_open_by, ties_stay}
+use Rattle.un_walk.proofs.LinkTests.{leads_not, leads_nowhere, leads_open, shut_by_dirt, shut_by_stop, shut_by_condition, is_open_by, ties_stay}
+use Rattle.un_walk.proofs.Tracing.{traces_closed, traces_bare}
 use Rattle.un_walk.proofs.walk.visit.Goals as goal
 
 on_ok : {T E : Type 0} (r : Result T E) (P Q : Type 0) → (P → Q) → OnOk r P → OnOk r Q
@@ -68,3 +69,42 @@ returns-clause-once g c =
     (sym c.is_shut_by_barrier.ensures ∙ c.if-is_shut_by_barrier.false) (sym c.stop_at.ensures ∙ c.if-stop_at.false)
     (ap (λ b. B.consistent && b) (sym (dirty_here G c.args.site.now n c.requires.site c.requires.at) ∙ sym c.is_some.ensures) ∙ sym c.is_shut_by_dirt.ensures ∙ c.if-is_shut_by_dirt.false) in
     λ once. c.follow.ensures.once (ties_stay G B n once open_here)
+
+pub returns-then-is_shut_by_dirt-clause-traces : goal.returns-then-is_shut_by_dirt-clause-traces
+returns-then-is_shut_by_dirt-clause-traces g c =
+    let G = g.G.Ground.stars_and_areas c.args.over.now in
+    let B = c.args.barriers.now in
+    let n = c.args.one.now.node in
+    traces_closed G B c.args.mode c.args.found.now c.args.number n c.requires.found c.requires.traces (shut_by_dirt G B c.args.mode n
+    (ap (λ b. B.consistent && b) (sym (dirty_here G c.args.site.now n c.requires.site c.requires.at) ∙ sym c.is_some.ensures) ∙ sym c.is_shut_by_dirt.ensures ∙ c.if-is_shut_by_dirt.true))
+
+pub returns-then-stop_at-clause-traces : goal.returns-then-stop_at-clause-traces
+returns-then-stop_at-clause-traces g c =
+    let G = g.G.Ground.stars_and_areas c.args.over.now in
+    let B = c.args.barriers.now in
+    let n = c.args.one.now.node in
+    traces_closed G B c.args.mode c.args.found.now c.args.number n c.requires.found c.requires.traces (shut_by_stop G B c.args.mode n (sym c.stop_at.ensures ∙ c.if-stop_at.true))
+
+pub returns-in_default-clause-traces : goal.returns-in_default-clause-traces
+returns-in_default-clause-traces g c =
+    let G = g.G.Ground.stars_and_areas c.args.over.now in
+    let B = c.args.barriers.now in
+    let n = c.args.one.now.node in
+    traces_bare G B c.args.mode c.args.found.now c.args.number n c.requires.found c.requires.traces (sym c.requires.entry ∙ ap option_copied c.in_default.is)
+
+pub returns-then-is_shut_by_barrier-clause-traces : goal.returns-then-is_shut_by_barrier-clause-traces
+returns-then-is_shut_by_barrier-clause-traces g c =
+    let G = g.G.Ground.stars_and_areas c.args.over.now in
+    let B = c.args.barriers.now in
+    let n = c.args.one.now.node in
+    traces_closed G B c.args.mode c.args.found.now c.args.number n c.requires.found c.requires.traces (shut_by_condition G B c.args.mode n c.in-Some.spot.now (sym c.requires.entry ∙ ap option_copied c.in-Some.is)
+    (sym c.is_shut_by_barrier.ensures ∙ c.if-is_shut_by_barrier.true))
+
+pub follow-requires-clause-opened : goal.follow-requires-clause-opened
+follow-requires-clause-opened g c =
+    let G = g.G.Ground.stars_and_areas c.args.over.now in
+    let B = c.args.barriers.now in
+    let n = c.args.one.now.node in
+    is_open_by G B c.args.mode n c.in-Some.spot.now (sym c.requires.entry ∙ ap option_copied c.in-Some.is)
+    (sym c.is_shut_by_barrier.ensures ∙ c.if-is_shut_by_barrier.false) (sym c.stop_at.ensures ∙ c.if-stop_at.false)
+    (ap (λ b. B.consistent && b) (sym (dirty_here G c.args.site.now n c.requires.site c.requires.at) ∙ sym c.is_some.ensures) ∙ sym c.is_shut_by_dirt.ensures ∙ c.if-is_shut_by_dirt.false)

@@ -1,4 +1,4 @@
-use Rattle.std.proofs.Common.{◌≡◌, ℕ, ◌+◌, ◌≤◌, length, get_or, slice_get, Some, Result, Ok, Err, OnOk, sym, ap, subst, ◌∙◌, arith}
+use Rattle.std.proofs.Common.{◌≡◌, ℕ, ◌+◌, ◌≤◌, length, get_or, slice_get, Some, Result, Ok, Err, OnOk, inl, inr, sym, ap, subst, ◌∙◌, arith}
 use Rattle.std.proofs.lemmas.Option.{slice_get-get_or}
 use Rattle.un_defs.specs.declared.port.Node.{Node}
 use Rattle.un_defs.specs.declared.star.Spot.{Spot}
@@ -13,6 +13,7 @@ use Rattle.un_walk.specs.Seen.{nodes_of}
 use Rattle.un_walk.specs.Growth.{with_node}
 use Rattle.un_walk.proofs.FoundOver.{star_here, visited_within, entry_at, no_entry_at, count_nodes, add_counts}
 use Rattle.un_walk.proofs.Marking.{position_some, position_none}
+use Rattle.un_walk.proofs.Tracing.{adds_to}
 use Rattle.un_walk.proofs.found.Found.add.Goals as goal
 
 on_ok : {T E : Type 0} (r : Result T E) (P Q : Type 0) → (P → Q) → OnOk r P → OnOk r Q
@@ -81,3 +82,15 @@ returns-in-None-clause-once g c =
     let same : nodes c.number_from.new.self ≡ nodes f = ap (λ l. nodes_of (seens_of l.items)) c.in_ok-number.ensures.items in
     on_ok c.add_stray.result _ _ (λ e. subst (λ ns. c.number_from.new.steps + length (nodes f) ≤ c.args.steps.now + length ns) (sym (e ∙ ap (λ ns. with_node ns c.args.node) same))
     (add_counts (g.G.Ground.stars_and_areas c.args.over.now) f c.requires.over c.args.node c.args.steps.now c.number_from.new.steps c.in_ok-number.ensures.once)) c.add_stray.ensures.nodes
+
+pub returns-in-Some-clause-adds : goal.returns-in-Some-clause-adds
+returns-in-Some-clause-adds g c =
+    let G : Ground = g.G.Ground.stars_and_areas c.args.over.now in
+    on_ok c.add_marked.result _ _ (λ adds. adds_to G c.args.self.now c.number_from.new.self c.add_marked.new.self c.args.node c.args.from c.args.via
+    (ap (λ v. v.items) c.in_ok-number.ensures.items) (ap (λ v. v.items) c.in_ok-number.ensures.chords) (elim adds [ inl a ↦ inl a | inr a ↦ inr (inl a) ])) c.add_marked.ensures.adds
+
+pub returns-in-None-clause-adds : goal.returns-in-None-clause-adds
+returns-in-None-clause-adds g c =
+    let G : Ground = g.G.Ground.stars_and_areas c.args.over.now in
+    on_ok c.add_stray.result _ _ (λ adds. adds_to G c.args.self.now c.number_from.new.self c.add_stray.new.self c.args.node c.args.from c.args.via
+    (ap (λ v. v.items) c.in_ok-number.ensures.items) (ap (λ v. v.items) c.in_ok-number.ensures.chords) (elim adds [ inl a ↦ inl a | inr a ↦ inr (inr a) ])) c.add_stray.ensures.adds

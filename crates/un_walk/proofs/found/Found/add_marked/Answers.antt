@@ -1,51 +1,92 @@
-use Rattle.std.proofs.Common.{◌≡◌, ◌∙◌, ◌+◌, length, slice_get, refl, sym, ap, subst}
+use Rattle.std.proofs.Common.{◌≡◌, ◌∙◌, ℕ, zero, suc, ◌+◌, ◌-◌, ◌≤◌, length, Result, Ok, Err, OnOk, SomeIff, inr, refl, sym, ap, subst, arith}
 use Rattle.std.proofs.lemmas.List.{length-set}
 use Rattle.un_defs.specs.declared.port.Node.{Node}
 use Rattle.un_defs.specs.Ground.{Ground}
 use Rattle.un_walk.specs.declared.found.Found.{Found}
 use Rattle.un_walk.specs.Seen.{nodes_of}
-use Rattle.un_walk.specs.Found.{IsInside, IsMarkedAt, seens_of, nodes}
-use Rattle.un_walk.proofs.FoundOver.{marked_inside, marked_node, marked_new, marked_twice, nodes_end_items, same_found, with_new, with_old}
+use Rattle.un_walk.specs.Found.{IsInside, IsMarkedAt, WasMarkedAt, seens_of, nodes}
+use Rattle.un_walk.proofs.FoundOver.{marked_inside, marked_node, marked_new, marked_twice, marked_place, nodes_end_items, same_found, with_new, with_old}
 use Rattle.un_walk.proofs.Marking.{with_items_all}
 use Rattle.un_walk.proofs.found.Found.add_marked.Goals as goal
+use Rattle.un_walk.proofs.found.Found.add_marked.Goals.{In-Some, In-None}
 
-pub put_mark-requires : goal.put_mark-requires
-put_mark-requires g c =
+on_ok : {T E : Type 0} (r : Result T E) (P Q : Type 0) → (P → Q) → OnOk r P → OnOk r Q
+on_ok (Ok x) P Q f h = f h
+on_ok (Err e) P Q f h = h
+
+always : {T E : Type 0} (r : Result T E) (P : Type 0) → P → OnOk r P
+always (Ok x) P h = h
+always (Err e) P h = tt
+
+is_none : (k : ℕ) → (1 ≤ k → ⊥) → k ≡ 0
+is_none zero h = refl
+is_none (suc k) h = absurd (h (omega arith))
+
+pub put_mark-old-requires : goal.put_mark-old-requires
+put_mark-old-requires g c =
     let G = g.G.Ground.stars_and_areas c.args._over.now in
     subst (λ vs. IsInside vs c.args.item.number c.args.place) (sym c.as_mut_slice.ensures.value)
     (marked_inside G c.args.self.now c.requires.over c.args.item.seen.node c.args.item.number c.args.place c.requires.item.number c.requires.place)
 
-pub returns-in_ok-push-clause-over : goal.returns-in_ok-push-clause-over
-returns-in_ok-push-clause-over g c =
-    let G : Ground = g.G.Ground.stars_and_areas c.args._over.now in
+pub returns-in-Some-clause-over : goal.returns-in-Some-clause-over
+returns-in-Some-clause-over g c =
     let f : Found = c.args.self.now in
-    let mark : IsMarkedAt f.visited.items c.put_mark.new.visited c.args.item.number c.args.place (c.len-mark.result + 1) =
-    subst (λ vs. IsMarkedAt vs c.put_mark.new.visited c.args.item.number c.args.place (c.len-mark.result + 1)) c.as_mut_slice.ensures.value (c.put_mark.ensures.new c.if-put_mark.true) in
-    let long : length c.put_mark.new.visited ≡ length f.visited.items = ap length mark.is ∙ length-set f.visited.items c.args.item.number mark.after in
-    (marked_node G f c.requires.over c.args.item c.args.place c.requires.item c.requires.place c.put_mark.new.visited (c.len-mark.result + 1) (ap (λ k. k + 1) (c.len-mark.ensures ∙ f.items.ok.0)) mark _
-    refl (with_items_all f.visited c.put_mark.new.visited long) refl c.in_ok-push.ensures.items).0
+    let facts = subst (λ o. SomeIff o (1 ≤ c.put_mark-old.result) (c.put_mark-old.result - 1)) c.in-Some.is c.checked_sub.ensures in
+    let same : c.put_mark-old.new.visited ≡ f.visited.items = (c.put_mark-old.ensures.old facts.0).0 ∙ c.as_mut_slice.ensures.value in
+    let visited : c.add_chord.new.self.visited.items ≡ f.visited.items =
+    ap (λ v. v.items) c.add_chord.ensures.visited ∙ with_items_all f.visited c.put_mark-old.new.visited (ap length same) ∙ same in
+    always c.add_chord.result _
+    (same_found (g.G.Ground.stars_and_areas c.args._over.now) f c.add_chord.new.self c.requires.over c.add_chord.ensures.points visited c.add_chord.ensures.strays (ap (λ v. v.items) c.add_chord.ensures.items))
 
-pub returns-in_ok-push-clause-nodes : goal.returns-in_ok-push-clause-nodes
-returns-in_ok-push-clause-nodes g c =
-    let G : Ground = g.G.Ground.stars_and_areas c.args._over.now in
-    let f : Found = c.args.self.now in
-    let n : Node = c.args.item.seen.node in
-    let mark : IsMarkedAt f.visited.items c.put_mark.new.visited c.args.item.number c.args.place (c.len-mark.result + 1) =
-    subst (λ vs. IsMarkedAt vs c.put_mark.new.visited c.args.item.number c.args.place (c.len-mark.result + 1)) c.as_mut_slice.ensures.value (c.put_mark.ensures.new c.if-put_mark.true) in
-    ap (λ l. nodes_of (seens_of l)) c.in_ok-push.ensures.items ∙ nodes_end_items f.items.items c.args.item
-    ∙ sym (with_new (nodes f) n (marked_new G f c.requires.over n c.args.item.number c.args.place (c.len-mark.result + 1) c.requires.item.number c.requires.place c.put_mark.new.visited mark))
-
-pub returns-else-put_mark-clause-over : goal.returns-else-put_mark-clause-over
-returns-else-put_mark-clause-over g c =
-    let f : Found = c.args.self.now in
-    let same : c.put_mark.new.visited ≡ f.visited.items = (c.put_mark.ensures.old c.if-put_mark.false).0 ∙ c.as_mut_slice.ensures.value in
-    same_found (g.G.Ground.stars_and_areas c.args._over.now) f _ c.requires.over refl (with_items_all f.visited c.put_mark.new.visited (ap length same) ∙ same) refl refl
-
-pub returns-else-put_mark-clause-nodes : goal.returns-else-put_mark-clause-nodes
-returns-else-put_mark-clause-nodes g c =
+pub returns-in-Some-clause-nodes : goal.returns-in-Some-clause-nodes
+returns-in-Some-clause-nodes g c =
     let G : Ground = g.G.Ground.stars_and_areas c.args._over.now in
     let f : Found = c.args.self.now in
     let n : Node = c.args.item.seen.node in
-    let (k, (v, at, marked)) = (c.put_mark.ensures.old c.if-put_mark.false).1 in
-    sym (with_old (nodes f) n (marked_twice G f c.requires.over n c.args.item.number c.args.place k c.requires.item.number c.requires.place
-    (v, ap (λ vs. slice_get vs c.args.item.number) (sym c.as_mut_slice.ensures.value) ∙ at, marked)))
+    let facts = subst (λ o. SomeIff o (1 ≤ c.put_mark-old.result) (c.put_mark-old.result - 1)) c.in-Some.is c.checked_sub.ensures in
+    let was : WasMarkedAt c.as_mut_slice.result.now c.args.item.number c.args.place c.put_mark-old.result = (c.put_mark-old.ensures.old facts.0).1 in
+    let was_f : WasMarkedAt f.visited.items c.args.item.number c.args.place (c.in-Some.there + 1) =
+    subst (λ vs. WasMarkedAt vs c.args.item.number c.args.place (c.in-Some.there + 1)) c.as_mut_slice.ensures.value
+    (subst (WasMarkedAt c.as_mut_slice.result.now c.args.item.number c.args.place) (omega (arith, facts.0, facts.1)) was) in
+    always c.add_chord.result _
+    (ap (λ v. nodes_of (seens_of v.items)) c.add_chord.ensures.items
+    ∙ sym (with_old (nodes f) n (marked_twice G f c.requires.over n c.args.item.number c.args.place c.in-Some.there c.requires.item.number c.requires.place was_f)))
+
+pub returns-in-Some-clause-adds : goal.returns-in-Some-clause-adds
+returns-in-Some-clause-adds g c =
+    let G : Ground = g.G.Ground.stars_and_areas c.args._over.now in
+    let f : Found = c.args.self.now in
+    let n : Node = c.args.item.seen.node in
+    let facts = subst (λ o. SomeIff o (1 ≤ c.put_mark-old.result) (c.put_mark-old.result - 1)) c.in-Some.is c.checked_sub.ensures in
+    let was : WasMarkedAt c.as_mut_slice.result.now c.args.item.number c.args.place c.put_mark-old.result = (c.put_mark-old.ensures.old facts.0).1 in
+    let was_f : WasMarkedAt f.visited.items c.args.item.number c.args.place (c.in-Some.there + 1) =
+    subst (λ vs. WasMarkedAt vs c.args.item.number c.args.place (c.in-Some.there + 1)) c.as_mut_slice.ensures.value
+    (subst (WasMarkedAt c.as_mut_slice.result.now c.args.item.number c.args.place) (omega (arith, facts.0, facts.1)) was) in
+    on_ok c.add_chord.result _ _ (λ more. inr (record {
+      place = c.in-Some.there;
+      at = marked_place G f c.requires.over n c.args.item.number c.args.place c.in-Some.there c.requires.item.number c.requires.place was_f;
+      items = ap (λ v. v.items) c.add_chord.ensures.items;
+      chords = more;
+    })) c.add_chord.ensures.chords
+
+pub returns-in_ok-push-in-None-clause-over : goal.returns-in_ok-push-in-None-clause-over
+returns-in_ok-push-in-None-clause-over g c =
+    let G : Ground = g.G.Ground.stars_and_areas c.args._over.now in
+    let f : Found = c.args.self.now in
+    let none = subst (λ o. SomeIff o (1 ≤ c.put_mark-old.result) (c.put_mark-old.result - 1)) c.in-None.is c.checked_sub.ensures in
+    let mark : IsMarkedAt f.visited.items c.put_mark-old.new.visited c.args.item.number c.args.place (c.len-mark.result + 1) =
+    subst (λ vs. IsMarkedAt vs c.put_mark-old.new.visited c.args.item.number c.args.place (c.len-mark.result + 1)) c.as_mut_slice.ensures.value (c.put_mark-old.ensures.new (is_none c.put_mark-old.result none)) in
+    let long : length c.put_mark-old.new.visited ≡ length f.visited.items = ap length mark.is ∙ length-set f.visited.items c.args.item.number mark.after in
+    (marked_node G f c.requires.over c.args.item c.args.place c.requires.item c.requires.place c.put_mark-old.new.visited (c.len-mark.result + 1) (ap (λ k. k + 1) (c.len-mark.ensures ∙ f.items.ok.0)) mark _
+    refl (with_items_all f.visited c.put_mark-old.new.visited long) refl c.in_ok-push-in-None.ensures.items).0
+
+pub returns-in_ok-push-in-None-clause-nodes : goal.returns-in_ok-push-in-None-clause-nodes
+returns-in_ok-push-in-None-clause-nodes g c =
+    let G : Ground = g.G.Ground.stars_and_areas c.args._over.now in
+    let f : Found = c.args.self.now in
+    let n : Node = c.args.item.seen.node in
+    let none = subst (λ o. SomeIff o (1 ≤ c.put_mark-old.result) (c.put_mark-old.result - 1)) c.in-None.is c.checked_sub.ensures in
+    let mark : IsMarkedAt f.visited.items c.put_mark-old.new.visited c.args.item.number c.args.place (c.len-mark.result + 1) =
+    subst (λ vs. IsMarkedAt vs c.put_mark-old.new.visited c.args.item.number c.args.place (c.len-mark.result + 1)) c.as_mut_slice.ensures.value (c.put_mark-old.ensures.new (is_none c.put_mark-old.result none)) in
+    ap (λ l. nodes_of (seens_of l)) c.in_ok-push-in-None.ensures.items ∙ nodes_end_items f.items.items c.args.item
+    ∙ sym (with_new (nodes f) n (marked_new G f c.requires.over n c.args.item.number c.args.place (c.len-mark.result + 1) c.requires.item.number c.requires.place c.put_mark-old.new.visited mark))

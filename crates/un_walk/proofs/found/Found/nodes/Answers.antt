@@ -2,7 +2,6 @@ use Rattle.std.proofs.Common.{◌≡◌, List, IfOk, map, ap, sym, subst, ◌∙
 use Rattle.un_defs.proofs.ListLemmas.{map-map}
 use Rattle.un_defs.specs.declared.port.Node.{Node}
 use Rattle.un_walk.specs.Seen.{node_of}
-use Rattle.un_walk.specs.Found.{nodes}
 use Rattle.un_walk.proofs.found.Found.nodes.Goals as goal
 
 pub returns : goal.returns
