@@ -6,13 +6,14 @@ const MODULUS: u32 = 2_147_483_648;
 
 /// A linear congruential generator.
 #[derive(Drop)]
-pub(crate) struct Draws {
-    pub(crate) state: u32,
+pub struct Draws {
+    /// Below 2^31.
+    pub state: u32,
 }
 
 impl Draws {
     /// The draws of a seed.
-    pub(crate) fn new(seed: u32) -> Draws
+    pub fn new(seed: u32) -> Draws
         ensures { result.state ≡ seeded seed }
     {
         Draws {

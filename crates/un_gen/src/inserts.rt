@@ -9,8 +9,8 @@ use un_ask::{Command, Edit, Name, NamedAttrs};
 use un_defs::{Flow, Note};
 use un_geom::{Rect, Triples};
 
-/// The joint of a place.
-pub(crate) fn joint(alloc: Global, place: u32) -> Result<Command, AllocError>
+/// The insert of the joint of a place. Want of memory is the one error.
+pub fn joint(alloc: Global, place: u32) -> Result<Command, AllocError>
     ensures { IfOk result (λ command. command ≡ joint_at place) }
 {
     insert(alloc, "joint", vec![in alloc; point(place)]?)
@@ -24,7 +24,7 @@ pub(crate) fn pipe(alloc: Global, from: u32, to: u32) -> Result<Command, AllocEr
 }
 
 /// The validation of all that is generated.
-pub(crate) fn validation() -> Command
+pub fn validation() -> Command
     ensures { result ≡ Validate whole }
 {
     match Rect::new(0, 0, 1_000_000_000, 1_000_000_000) {

@@ -3,6 +3,9 @@
 //! Joints stand on a grid, 20 in a row, a metre apart. Pipes join each to the next one of its row and, where a draw says
 //! so, to the one above it in the next row; seven of eight draws do. The draws come from a linear congruential generator
 //! that starts at the seed, so the same seed and the same count give the same commands.
+//!
+//! The commands are the joints of all places, the pipes from all places, and a validation of all of it, in this order. [`commands`] has them in
+//! a list; whoever applies them one after another makes them place by place, and keeps but a few at once.
 #![tactic(auto)]
 
 ghost use Rattle.std.specs.Prelude.{◌≡◌, ◌≤◌, IfOk};
@@ -13,6 +16,9 @@ mod inserts;
 mod joints;
 mod pipes;
 
+pub use draws::Draws;
+pub use inserts::{joint, validation};
+pub use pipes::pipes_at;
 use std::alloc::{AllocError, Global};
 use un_ask::Command;
 

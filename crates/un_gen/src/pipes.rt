@@ -1,4 +1,4 @@
-ghost use Rattle.std.specs.Prelude.{◌≡◌, ◌≤◌, ◌<◌, ◌++◌, OnOk};
+ghost use Rattle.std.specs.Prelude.{◌≡◌, ◌≤◌, ◌<◌, ◌++◌, IfOk, OnOk};
 ghost use Rattle.un_gen.specs.Generator.{seeded, has_next, has_above, along, across, pipes_at, state_after, pipes};
 
 use crate::draws::Draws;
@@ -21,6 +21,22 @@ pub(crate) fn push_pipes(
         push_pipes_at(alloc, count, place, &mut draws, commands)?;
     }
     Ok(())
+}
+
+/// The inserts of the pipes from a place, of `count` places, with the draw that it makes: at most two. Want of memory is the one error.
+pub fn pipes_at(
+    alloc: Global,
+    count: u32,
+    place: u32,
+    draws: &mut Draws,
+) -> Result<Vec<Command>, AllocError>
+    requires { place < 20000 }
+    ensures pipes { IfOk result (λ made. made.items ≡ pipes_at count draws.old.state place) }
+    ensures draws { OnOk result (draws.new.state ≡ state_after count draws.old.state place) }
+{
+    let mut pipes = Vec::with_capacity(alloc, 2)?;
+    push_pipes_at(alloc, count, place, draws, &mut pipes)?;
+    Ok(pipes)
 }
 
 /// Adds the pipes from a place.

@@ -16,3 +16,7 @@ redone_more s t cs i c within here is =
 -- one command behind the others
 pub redone_push : (s : State) (cs : List Command) (c : Command) → redone s (cs ++ c ∷ []) ≡ state_after (redone s cs) c
 redone_push s cs c = fold-append state_after s cs (c ∷ [])
+
+-- commands behind others
+pub redone_append : (s : State) (cs ds : List Command) → redone s (cs ++ ds) ≡ redone (redone s cs) ds
+redone_append s cs ds = fold-append state_after s cs ds

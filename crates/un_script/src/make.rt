@@ -19,12 +19,10 @@ pub(crate) fn make_line(alloc: Global, seed: u32, count: u32) -> Result<Vec<u8>,
     requires few { count ≤ 20000 }
     ensures { IfOk result (λ line. line.items ≡ made_line seed count) }
 {
-    let commands = un_gen::commands(alloc, seed, count)?;
     let empty = network::open(alloc)?;
-    let (net, errors) = network::apply_all(alloc, empty, commands.as_slice())?;
+    let (net, errors) = network::apply_all(alloc, empty, seed, count)?;
     let line = line::line_at(alloc, &net, errors);
     // The program ends after this line, and the system takes its memory back faster than it can be freed block by block.
-    forget(commands);
     forget(net);
     line
 }

@@ -55,16 +55,23 @@ fn work_of(command: &Command, reply: &Reply) -> u64 {
     }
 }
 
-// The network once the commands are applied to another, one after another.
+/// The network once commands are applied to another, one after another.
+pub(crate) fn after(alloc: Global, net: Net, commands: &[Command]) -> Result<Net, AllocError>
+    ensures { IfOk result (λ next. next ≡ redone net commands.now) }
+{
+    let mut last = net;
+    for command in commands {
+        let (next, _reply) = last.stepped(alloc, command)?;
+        last = next;
+    }
+    Ok(last)
+}
+
+// The network that the commands since a checkpoint lead to.
 fn redo(alloc: Global, checkpoint: &Net, since: &[Command]) -> Result<Net, AllocError>
     ensures { IfOk result (λ net. net ≡ redone checkpoint.now since.now) }
 {
-    let mut net = checkpoint.share()?;
-    for command in since {
-        let (next, _reply) = net.stepped(alloc, command)?;
-        net = next;
-    }
-    Ok(net)
+    after(alloc, checkpoint.share()?, since)
 }
 
 // Hands a network over for a command to change. Where it is kept, it is one that shares its pages, and the network itself stays.

@@ -1,8 +1,0 @@
-use Rattle.std.proofs.Common.{◌∙◌}
-use Rattle.un_script.proofs.Redone.{redone_more}
-use Rattle.un_script.proofs.recoverable.redo.Goals as goal
-
-pub loop-command-preserved : goal.loop-command-preserved
-loop-command-preserved c =
-    c.in_ok-next.ensures.state
-    ∙ redone_more c.args.checkpoint.now c.loop-command.net c.args.since.now c.loop-command.command-index c.command-item.result c.loop-command-test.true c.command-item.is c.loop-command.invariant
