@@ -1,4 +1,5 @@
 pub mod Pointed
+pub mod Within
 mod Thinned
 pub mod Replaced
 mod Covered

@@ -55,7 +55,7 @@ unfolding IsStrictlySortedBy
 sorted_none = tt
 
 -- the areas of a list, and one more
-under_split : (areas : List (ℕ × Rectangle)) (area : ℕ × Rectangle) (p : Point) → is_under (areas ++ area ∷ []) p ≡ (is_under areas p || covers area.1 p)
+pub under_split : (areas : List (ℕ × Rectangle)) (area : ℕ × Rectangle) (p : Point) → is_under (areas ++ area ∷ []) p ≡ (is_under areas p || covers area.1 p)
 under_split areas area p = list_any-append (λ area. covers area.1 p) areas (area ∷ []) ∙ ap (λ b. is_under areas p || b) (or_false (covers area.1 p))
   where
     or_false : (b : Bool) → (b || false) ≡ b

@@ -2,3 +2,4 @@ pub mod Rebuilding
 pub mod Gathered
 pub mod Preparing
 pub mod Renewed
+pub mod Inside

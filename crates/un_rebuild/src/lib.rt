@@ -9,7 +9,8 @@
 //! # How it is found
 //!
 //! [`points_under`] gathers the points at which something stands or a star is kept, area by area, in a list that is sorted from time to time
-//! and then keeps each point once (`gathered`). [`rebuild`] puts the star of each into a topology that shares its pages with the kept one: the
+//! and then keeps each point once (`gathered`). Where the areas are many and lie in the extent, as after a network was loaded, the points in the
+//! extent are taken as a whole (`inside`). [`rebuild`] puts the star of each into a topology that shares its pages with the kept one: the
 //! one that was built beforehand, if the marks of what was done since do not cover the point ([`Marks`], [`Usable`]), and else one that is
 //! built now by `un_star`.
 //!
@@ -21,11 +22,13 @@
 //! # What it costs
 //!
 //! The points whose x lies between the sides of an area are looked at, and a star is built for each that it covers, once however many areas
-//! cover it. While they are gathered, the points take memory in proportion to the distinct ones. Topology elsewhere is shared, and not looked
+//! cover it. Where there are at least as many areas as features, and all lie in the extent, each point there is looked at once, and the areas
+//! over it are looked up. While they are gathered, the points take memory in proportion to the distinct ones. Topology elsewhere is shared, and not looked
 //! at.
 #![tactic(auto)]
 
 mod gathered;
+mod inside;
 pub mod marks;
 pub mod points;
 pub mod topology;

@@ -6,7 +6,7 @@ ghost use Rattle.un_rebuild.specs.Rebuilding.{fresh_at, met, AreRebuilt, IsKept}
 ghost use Rattle.un_rebuild.specs.Renewed.{IsRebuilt};
 ghost use Rattle.un_rebuild.specs.Preparing.{AreUsable};
 
-use crate::points::points_under;
+use crate::inside::points_met;
 use crate::usable::Usable;
 use std::alloc::{AllocError, Global};
 use std::sync::Arc;
@@ -114,7 +114,7 @@ pub fn rebuild(
     ensures { IfOk result (IsRebuilt facts.now kept.now (met extent dirty.now.areas)) }
 {
     let areas = dirty.meeting(alloc, extent)?;
-    let points = points_under(alloc, facts, kept, &areas)?;
+    let points = points_met(alloc, facts, kept, dirty, extent, &areas)?;
     let Replaced { kept, errors } = put_stars(alloc, facts, kept, &points, usable)?;
     Ok(Rebuilt {
         kept,
