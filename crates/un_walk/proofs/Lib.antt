@@ -8,3 +8,4 @@ pub mod Spreading
 pub mod Entered
 pub mod FoundOver
 pub mod Tracing
+pub mod Keyed

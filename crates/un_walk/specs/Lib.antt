@@ -3,6 +3,7 @@ pub mod Hashing
 pub mod Entries
 pub mod Growth
 pub mod Seen
+pub mod Ranked
 pub mod Site
 pub mod Found
 pub mod Ticks

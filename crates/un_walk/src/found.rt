@@ -3,15 +3,17 @@
 ghost use Rattle.std.specs.Prelude.{◌≡◌, ◌<◌, ◌≤◌, ◌+◌, ◌++◌, ◌⊎◌, [], false, length, map, slice_get, Some, None, All, IsTrue, IsSome, IfSome, IfNone, IfOk, OnOk};
 ghost use Rattle.std.specs.Option.{option_copied};
 ghost use Rattle.un_defs.specs.Ground.{Ground, entry};
-ghost use Rattle.un_defs.specs.Orders.{same_node};
+ghost use Rattle.std.specs.List.Sorted.{IsPermutation, IsSorted};
+ghost use Rattle.un_defs.specs.Orders.{same_node, node_cmp};
 ghost use Rattle.un_walk.specs.Growth.{has_node, with_node};
-ghost use Rattle.un_walk.specs.Seen.{spot_of};
+ghost use Rattle.un_walk.specs.Seen.{spot_of, nodes_of};
 ghost use Rattle.un_walk.specs.Site.{IsSite};
 ghost use Rattle.un_walk.specs.Traced.{chords, IsOrigin, IsStart, chord_if, IsFoundFrom, AddsNode, AddsChord, AddsNothing, Adds};
 ghost use Rattle.un_walk.specs.Found.{seens, nodes, IsPlaceIn, IsNumberOf, IsWithoutNumber, IsUnmarked, IsInside, IsMarkedAt, WasMarkedAt, IsItemOver, IsFoundOver};
 
 use crate::points::Points;
-use crate::seen::Seen;
+use crate::ranked::nearly_sorted;
+use crate::seen::{Seen, sort_by_node};
 use crate::site::{Site, looked_up};
 use crate::strays::Strays;
 use crate::traversal::is_same_point;
@@ -176,11 +178,14 @@ impl<'a> Found<'a> {
         self.chords.as_slice()
     }
 
-    /// The nodes with their entries, in the order in which they were found.
-    pub(crate) fn seen(&self, alloc: Global) -> Result<Vec<Seen<'a>>, AllocError>
-        ensures { IfOk result (λ seen. seen.items ≡ seens self.now) }
+    /// The nodes with their entries, in order.
+    pub(crate) fn sorted(&self, alloc: Global) -> Result<Vec<Seen<'a>>, AllocError>
+        ensures permutation { IfOk result (λ seen. IsPermutation (seens self.now) seen.items) }
+        ensures sorted { IfOk result (λ seen. IsSorted node_cmp (nodes_of seen.items)) }
     {
-        self.items.iter().map(|item| item.seen).collect(alloc)
+        let mut seen = nearly_sorted(alloc, self.items.as_slice())?;
+        sort_by_node(&mut seen);
+        Ok(seen)
     }
 
     /// The nodes alone, in the order in which they were found.
@@ -218,7 +223,8 @@ impl<'a> Found<'a> {
         Ok(())
     }
 
-    // The number of a point. What the ground has there is looked up where the point had no number.
+    // The number of a point. What the ground has there is looked up where the point had no number, and there is room for as many chords more as
+    // links lead away from it.
     fn number<G: Ground, L>(
         &mut self,
         alloc: Global,
@@ -229,7 +235,7 @@ impl<'a> Found<'a> {
         requires { IsFoundOver (G.stars_and_areas over.now) self.old }
         ensures over { OnOk result (IsFoundOver (G.stars_and_areas over.now) self.new) }
         ensures items { OnOk result (self.new.items ≡ self.old.items) }
-        ensures chords { OnOk result (self.new.chords ≡ self.old.chords) }
+        ensures chords { OnOk result (chords self.new ≡ chords self.old) }
         ensures number { IfOk result (IsNumberOf self.new.points at) }
         ensures once { OnOk result ((steps.new ≡ steps.old)
             ⊎ ((steps.new ≤ steps.old + 1) × IsWithoutNumber self.old.points at)) }
@@ -241,6 +247,7 @@ impl<'a> Found<'a> {
             return Ok(number);
         }
         let visited = unmarked(alloc, over, at, steps)?;
+        self.chords.reserve(visited.site.links_away())?;
         self.visited.push(visited)?;
         Ok(number)
     }
@@ -257,7 +264,7 @@ impl<'a> Found<'a> {
         requires { IsFoundOver (G.stars_and_areas over.now) self.old }
         ensures over { OnOk result (IsFoundOver (G.stars_and_areas over.now) self.new) }
         ensures items { OnOk result (self.new.items ≡ self.old.items) }
-        ensures chords { OnOk result (self.new.chords ≡ self.old.chords) }
+        ensures chords { OnOk result (chords self.new ≡ chords self.old) }
         ensures number { IfOk result (IsNumberOf self.new.points at) }
         ensures once { OnOk result ((steps.new ≡ steps.old)
             ⊎ ((steps.new ≤ steps.old + 1) × IsWithoutNumber self.old.points at)) }

@@ -19,7 +19,8 @@
 //! the least dirty area ([`site::Site`]), and a mark for each entry of the star: the place of its node in the list, if it was found. So the
 //! mark of its entry tells whether a node is in the list, and where; the few nodes without an entry are kept in a set of their own
 //! ([`strays::Strays`]). Most links stay at a point, and lead to a node whose point's number is known. Of the others, most lead to where their
-//! node was found from: the list remembers that place for each node, and such a link needs no look-up at all.
+//! node was found from: the list remembers that place for each node, and such a link needs no look-up at all. The links of a star are read when
+//! the walk first comes to its point, all in one loop ([`site::Site::links_away`]), since those that no cache holds are fetched side by side then.
 //!
 //! The list also remembers by which link each node was found ([`found::Origin`]). These links make a forest over the places in the list, with
 //! the starts as roots. A link that leads to a node found before, at the same place or a later one, is a chord ([`found::Chord`]), and chords are
@@ -29,7 +30,8 @@
 //!
 //! It is done once it has taken the last node. The dirt is kept on the way: the least so far, by area, then port ([`dirt::dirt_after`]). So
 //! are the entries of the nodes, which callers need for their results. [`walk::reach_found`] answers the list itself, for callers that ask for
-//! the forest and the chords; [`walk::reach_seen`] the nodes with their entries, sorted, and [`walk::reach`] the nodes alone.
+//! the forest and the chords; [`walk::reach_seen`] the nodes with their entries, sorted, first by one number each ([`ranked`]) and then by node, and
+//! [`walk::reach`] the nodes alone.
 //!
 //! # Why that is enough
 //!
@@ -48,7 +50,8 @@
 //! One look-up of an area and one of a star for each point at which nodes are reached, and for each link of an open node that the mode takes
 //! a search among the entries of the star to which it leads, save those back to the node from which it was found. A link to another point
 //! takes one look-up in a hash table of points before. Only where a tier is asked for and a path leads to another point is one more star
-//! looked up. Sorting the nodes, where that is asked for, takes n log n comparisons.
+//! looked up. The links of each star to which the walk comes are read once more than it goes by them. Sorting the nodes, where that is asked
+//! for, takes n log n comparisons.
 #![tactic(auto)]
 
 mod dirt;
@@ -56,6 +59,7 @@ mod entries;
 pub mod found;
 mod hasher;
 mod points;
+mod ranked;
 pub mod seen;
 mod site;
 mod strays;

@@ -1,11 +1,12 @@
 //! What a ground has at a point.
 
 ghost use Rattle.std.specs.Prelude.{◌≡◌, ◌≤◌, ◌+◌, length, slice_get};
-ghost use Rattle.std.specs.List.{position};
+ghost use Rattle.std.specs.List.{position, sum_by};
 ghost use Rattle.std.specs.Option.{option_copied};
 ghost use Rattle.un_defs.specs.Orders.{same_port};
-ghost use Rattle.un_walk.specs.Site.{star_of, IsSite};
+ghost use Rattle.un_walk.specs.Site.{star_of, ties_away, IsSite};
 
+use crate::traversal::is_same_point;
 use un_defs::{Ground, Port, Spot, Star};
 use un_geom::Point;
 use un_steps::Steps;
@@ -29,6 +30,23 @@ impl<'a> Site<'a> {
         }
     }
 
+    /// How many links lead from the entries of the star to other points, or 2^64 - 1 where there are more.
+    ///
+    /// The links of a star that a walk comes to are read one by one soon after. Here they are read in one short loop, so that those which no
+    /// cache holds are fetched side by side.
+    pub(crate) fn links_away(&self) -> usize
+        ensures { result ≤ sum_by (ties_away self.now.at) (star_of self.now).spots }
+    {
+        let Some(star) = self.star else {
+            return 0;
+        };
+        let mut count: usize = 0;
+        for spot in star.spots.as_slice() {
+            count = count.saturating_add(ties_away(spot, self.at));
+        }
+        count
+    }
+
     /// The place of a port's entry in the star, if it has one.
     pub(crate) fn place(&self, port: Port) -> Option<usize>
         ensures { result ≡ position (λ s. same_port s.port port) (star_of self.now).spots }
@@ -46,6 +64,17 @@ impl<'a> Site<'a> {
     {
         self.star?.spots.as_slice().get(place)
     }
+}
+
+// How many links lead from the entry to other points than this one.
+fn ties_away(spot: &Spot, at: Point) -> usize
+    ensures { result ≡ ties_away at spot.now }
+{
+    spot.ties
+        .as_slice()
+        .iter()
+        .filter(|tie| !is_same_point(tie.to.at, at))
+        .count()
 }
 
 /// What the ground has at the point. `steps` counts the star.

@@ -14,7 +14,7 @@ ghost use Rattle.un_walk.specs.Traced.{Traces, AreDoneBefore, IsTraced};
 
 use crate::dirt::dirt_after;
 use crate::found::Found;
-use crate::seen::{Seen, sort_by_node};
+use crate::seen::Seen;
 use crate::site::Site;
 use crate::traversal::{Place, follow};
 use std::alloc::{AllocError, Global};
@@ -213,8 +213,7 @@ pub fn reach_seen<'a, G: Ground, L>(
     ensures never_falls { steps.old ≤ steps.new }
 {
     let reached = reach_found(alloc, over, starts, mode, barriers, steps)?;
-    let mut seen = reached.found.seen(alloc)?;
-    sort_by_node(&mut seen);
+    let seen = reached.found.sorted(alloc)?;
     Ok(ReachedSeen {
         seen,
         dirt: reached.dirt,

@@ -87,10 +87,10 @@ pub returns-in-Some-clause-adds : goal.returns-in-Some-clause-adds
 returns-in-Some-clause-adds g c =
     let G : Ground = g.G.Ground.stars_and_areas c.args.over.now in
     on_ok c.add_marked.result _ _ (λ adds. adds_to G c.args.self.now c.number_from.new.self c.add_marked.new.self c.args.node c.args.from c.args.via
-    (ap (λ v. v.items) c.in_ok-number.ensures.items) (ap (λ v. v.items) c.in_ok-number.ensures.chords) (elim adds [ inl a ↦ inl a | inr a ↦ inr (inl a) ])) c.add_marked.ensures.adds
+    (ap (λ v. v.items) c.in_ok-number.ensures.items) c.in_ok-number.ensures.chords (elim adds [ inl a ↦ inl a | inr a ↦ inr (inl a) ])) c.add_marked.ensures.adds
 
 pub returns-in-None-clause-adds : goal.returns-in-None-clause-adds
 returns-in-None-clause-adds g c =
     let G : Ground = g.G.Ground.stars_and_areas c.args.over.now in
     on_ok c.add_stray.result _ _ (λ adds. adds_to G c.args.self.now c.number_from.new.self c.add_stray.new.self c.args.node c.args.from c.args.via
-    (ap (λ v. v.items) c.in_ok-number.ensures.items) (ap (λ v. v.items) c.in_ok-number.ensures.chords) (elim adds [ inl a ↦ inl a | inr a ↦ inr (inr a) ])) c.add_stray.ensures.adds
+    (ap (λ v. v.items) c.in_ok-number.ensures.items) c.in_ok-number.ensures.chords (elim adds [ inl a ↦ inl a | inr a ↦ inr (inr a) ])) c.add_stray.ensures.adds

@@ -43,3 +43,6 @@ returns-clause-once g c =
     let f : Found = c.args.self.now in
     let new : IsWithoutNumber f.points c.args.at = omega (arith, c.if-number-count.false, c.in_ok-number.ensures.number, c.len-count.ensures, count f c.requires.points) in
     inr (c.unmarked.ensures.once, new)
+
+pub returns-clause-chords : goal.returns-clause-chords
+returns-clause-chords g c = c.in_ok-reserve.ensures.items
