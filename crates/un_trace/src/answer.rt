@@ -62,14 +62,14 @@ fn result_of<G: Ground>(
     alloc: Global,
     _over: &G,
     ask: &TypedAsk,
-    reached: &[Seen],
+    reached: Vec<Seen>,
 ) -> Result<ResultReply, AllocError>
-    requires entries { HaveEntries (G.stars_and_areas _over.now) reached.now }
-    requires sorted { IsStrictlySortedBy node_cmp (nodes_of reached.now) }
+    requires entries { HaveEntries (G.stars_and_areas _over.now) reached.items }
+    requires sorted { IsStrictlySortedBy node_cmp (nodes_of reached.items) }
     ensures { IfOk result (λ r. r ≡ result_of (G.stars_and_areas _over.now) ask.now
-        (nodes_in_result (G.stars_and_areas _over.now) ask.now (nodes_of reached.now))) }
+        (nodes_in_result (G.stars_and_areas _over.now) ask.now (nodes_of reached.entry.items))) }
 {
-    let nodes = seen_in_result(alloc, reached, &ask.barriers, ask.include.barriers)?;
+    let nodes = seen_in_result(reached, &ask.barriers, ask.include.barriers);
     let seen = nodes.as_slice();
     let features = features_of(alloc, seen)?;
     let functions = totals(
@@ -124,12 +124,12 @@ fn result_reply<G: Ground>(
     alloc: Global,
     over: &G,
     ask: &TypedAsk,
-    reached: &[Seen],
+    reached: Vec<Seen>,
 ) -> Result<Reply, AllocError>
-    requires entries { HaveEntries (G.stars_and_areas over.now) reached.now }
-    requires sorted { IsStrictlySortedBy node_cmp (nodes_of reached.now) }
+    requires entries { HaveEntries (G.stars_and_areas over.now) reached.items }
+    requires sorted { IsStrictlySortedBy node_cmp (nodes_of reached.items) }
     ensures { IfOk result (λ r. r
-        ≡ result_reply (G.stars_and_areas over.now) ask.now (nodes_of reached.now)) }
+        ≡ result_reply (G.stars_and_areas over.now) ask.now (nodes_of reached.entry.items)) }
 {
     let result = result_of(alloc, over, ask, reached)?;
     Ok(Reply::Traced { result, version: 0 })
@@ -140,16 +140,16 @@ fn clean_reply<G: Ground>(
     alloc: Global,
     over: &G,
     ask: &TypedAsk,
-    reached: &[Seen],
+    reached: Vec<Seen>,
 ) -> Result<Reply, AllocError>
     requires kind { IsAnswerable ask.now.kind ask.now.barriers.tier }
-    requires entries { HaveEntries (G.stars_and_areas over.now) reached.now }
-    requires sorted { IsStrictlySortedBy node_cmp (nodes_of reached.now) }
+    requires entries { HaveEntries (G.stars_and_areas over.now) reached.items }
+    requires sorted { IsStrictlySortedBy node_cmp (nodes_of reached.items) }
     ensures { IfOk result (λ r. r
-        ≡ clean_reply (G.stars_and_areas over.now) ask.now (nodes_of reached.now)) }
+        ≡ clean_reply (G.stars_and_areas over.now) ask.now (nodes_of reached.entry.items)) }
 {
     if lists_controllers(ask.kind) {
-        controllers_reply(alloc, over, ask, reached)
+        controllers_reply(alloc, over, ask, reached.as_slice())
     } else {
         result_reply(alloc, over, ask, reached)
     }
@@ -186,6 +186,6 @@ pub fn trace<G: Ground, L>(
     )?;
     match dirt_that_matters(&ask.barriers, reached.dirt) {
         Some(dirt) => Ok(Reply::on_dirty_ground(dirt)),
-        None => clean_reply(alloc, over, ask, reached.seen.as_slice()),
+        None => clean_reply(alloc, over, ask, reached.seen),
     }
 }

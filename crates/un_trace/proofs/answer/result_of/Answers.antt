@@ -15,16 +15,16 @@ features_of-requires g c =
     let G = g.G.Ground.stars_and_areas c.args._over.now in
     let ask = c.args.ask.now in
     subst (IsStrictlySortedBy node_cmp)
-    (sym (ap nodes_of (c.as_slice-seen.ensures.value ∙ c.in_ok-nodes.ensures) ∙ in_result_nodes G ask.barriers ask.include.barriers c.args.reached.now c.requires.entries))
-    (result_sorted G ask (nodes_of c.args.reached.now) c.requires.sorted)
+    (sym (ap nodes_of (c.as_slice-seen.ensures.value ∙ c.seen_in_result-nodes.ensures) ∙ in_result_nodes G ask.barriers ask.include.barriers c.args.reached.items c.requires.entries))
+    (result_sorted G ask (nodes_of c.args.reached.items) c.requires.sorted)
 
 pub returns : goal.returns
 returns g c =
     let G = g.G.Ground.stars_and_areas c.args._over.now in
     let ask = c.args.ask.now in
-    let reached = c.args.reached.now in
+    let reached = c.args.reached.items in
     let seen : List Seen = c.as_slice-seen.result.now in
-    let is : seen ≡ filter (is_in_result ask.barriers ask.include.barriers) reached = c.as_slice-seen.ensures.value ∙ c.in_ok-nodes.ensures in
+    let is : seen ≡ filter (is_in_result ask.barriers ask.include.barriers) reached = c.as_slice-seen.ensures.value ∙ c.seen_in_result-nodes.ensures in
     result_is G ask (nodes_of reached) seen
     (reply_with c.in_ok-containers.containers c.in_ok-content.content c.new.result c.in_ok-functions.functions ask.kind c.in_ok-structures.structures)
     (record {
