@@ -8,8 +8,7 @@ use Rattle.std.specs.List.{AllByRecursion, enumerate_from}
 use Rattle.std.specs.List.Sorted.{IsStrictlySortedBy}
 use Rattle.un_geom.specs.Rectangle.{Rectangle}
 use Rattle.un_pages.specs.Pairs.{IsOrdered, IsAbove}
-use Rattle.un_dirty.specs.declared.cells.Cell.{Cell}
-use Rattle.un_dirty.specs.Cells.{CellMap, is_in, level_of, cell_at, IsIndexed}
+use Rattle.un_dirty.specs.Cells.{CellMap, level_of, cell_at, KeepsBelow, KeepsBut, IsIndexed}
 use Rattle.un_dirty.proofs.Adding.{enumerate_more, got}
 use Rattle.un_dirty.proofs.Numbering.{differ}
 
@@ -29,13 +28,13 @@ all_at P [] i x within here h = absurd (omega arith)
 all_at P (y ∷ l) zero x within here h = subst P (sym here) h.0
 all_at P (y ∷ l) (suc i) x within here h = all_at P l i x (omega arith) here h.1
 
-pub indexed_more : (old new : CellMap) (l m : ℕ) (a : ℕ × Rectangle) → ((k : Cell) → (n : ℕ) → is_in k n old ≡ true → is_in k n new ≡ true) → l ≤ m → IsIndexed old l a → IsIndexed new m a
-indexed_more old new l m a h le is = record { low = omega (arith, is.low, le); all = λ p e. h (cell_at (level_of a.1) p) a.0 (is.all p e) }
+pub indexed_more : (old new : CellMap) (l m first : ℕ) (a : ℕ × Rectangle) → KeepsBelow first old new → l ≤ m → a.0 < first → IsIndexed old l a → IsIndexed new m a
+indexed_more old new l m first a h le low is = record { low = omega (arith, is.low, le); all = λ p e. h (cell_at (level_of a.1) p) a.0 a.1 low (is.all p e) }
 
-pub all_more : (old new : CellMap) (l m : ℕ) (areas : List (ℕ × Rectangle)) → ((k : Cell) → (n : ℕ) → is_in k n old ≡ true → is_in k n new ≡ true) → l ≤ m
+pub all_more : (old new : CellMap) (l m first : ℕ) (areas : List (ℕ × Rectangle)) → KeepsBelow first old new → l ≤ m → AllByRecursion (λ a. a.0 < first) areas
     → AllByRecursion (IsIndexed old l) areas → AllByRecursion (IsIndexed new m) areas
-all_more old new l m [] h le is = tt
-all_more old new l m (a ∷ areas) h le is = (indexed_more old new l m a h le is.0, all_more old new l m areas h le is.1)
+all_more old new l m first [] h le low is = tt
+all_more old new l m first (a ∷ areas) h le low is = (indexed_more old new l m first a h le low.0 is.0, all_more old new l m first areas h le low.1 is.1)
 
 pub all_append : (P : ℕ × Rectangle → Type 0) (a b : List (ℕ × Rectangle)) → AllByRecursion P a → AllByRecursion P b → AllByRecursion P (a ++ b)
 all_append P [] b h g = g
@@ -90,9 +89,9 @@ parted test (x ∷ l) s = by (test x) (parted test l s.1)
 
 -- the areas that do not pass are still shown once the numbers of those that pass are taken out
 pub left_indexed : (test : ℕ × Rectangle → Bool) (areas gone : List (ℕ × Rectangle)) (old new : CellMap) (l : ℕ) → IsOrdered nat_cmp areas → gone ≡ filter test areas
-    → ((k : Cell) → (n : ℕ) → AllByRecursion (λ a. n ≢ a.0) gone → is_in k n old ≡ true → is_in k n new ≡ true)
+    → KeepsBut gone old new
     → AllByRecursion (IsIndexed old l) areas → AllByRecursion (IsIndexed new l) (filter (λ a. not (test a)) areas)
 left_indexed test areas gone old new l s e kept is =
     each (λ a. IsIndexed old l a × AllByRecursion (λ g. a.0 ≢ g.0) (filter test areas)) (IsIndexed new l) (filter (λ a. not (test a)) areas)
-    (λ a h. record { low = h.0.low; all = λ p c. kept (cell_at (level_of a.1) p) a.0 (subst (AllByRecursion (λ g. a.0 ≢ g.0)) (sym e) h.1) (h.0.all p c) })
+    (λ a h. record { low = h.0.low; all = λ p c. kept (cell_at (level_of a.1) p) a.0 a.1 (subst (AllByRecursion (λ g. a.0 ≢ g.0)) (sym e) h.1) (h.0.all p c) })
     (pairs (IsIndexed old l) (λ a. AllByRecursion (λ g. a.0 ≢ g.0) (filter test areas)) (filter (λ a. not (test a)) areas) (others_left test (IsIndexed old l) areas is) (parted test areas s))

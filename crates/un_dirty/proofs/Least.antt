@@ -15,7 +15,7 @@ use Rattle.un_geom.specs.declared.point.Point.{Point}
 use Rattle.un_geom.specs.Rectangle.{Rectangle}
 use Rattle.un_geom.specs.Places.{covers}
 use Rattle.un_pages.specs.Pairs.{IsOrdered, IsAbove}
-use Rattle.un_dirty.specs.Cells.{CellMap, is_in, level_of, cell_at, is_covered, covers_at, lesser_of, IsAtMost, IsIndexed}
+use Rattle.un_dirty.specs.Cells.{CellMap, IsIn, level_of, cell_at, is_covered, covers_at, lesser_of, IsAtMost, IsLeastOver, IsIndexed}
 use Rattle.un_dirty.proofs.Lookups.{found_above}
 use Rattle.un_dirty.proofs.Numbering.{equal, tie}
 
@@ -79,7 +79,7 @@ lesser_second (Some m) (Some k) n h = omega (arith, h, min-le_right m k)
 
 record IsFirst (areas : List (ℕ × Rectangle)) (cells : CellMap) (levels : ℕ) (p : Point) (a : ℕ × Rectangle) : Type 0 where
   pub low : level_of a.1 < levels
-  pub there : is_in (cell_at (level_of a.1) p) a.0 cells ≡ true
+  pub there : IsIn (cell_at (level_of a.1) p) a.0 a.1 cells
   pub at : lookup (is_at (nat_cmp a.0)) areas ≡ Some a.1
   pub over : covers a.1 p ≡ true
 
@@ -101,7 +101,7 @@ module _ (cells : CellMap) (levels : ℕ) (p : Point) where
 
   pub least_is : (areas : List (ℕ × Rectangle)) (r : Option ℕ) → IsOrdered nat_cmp areas → AllByRecursion (IsIndexed cells levels) areas
       → IfSome r (λ n. covers_at p n areas ≡ true)
-      → ((level : ℕ) → (n : ℕ) → level < levels → is_in (cell_at level p) n cells ≡ true → covers_at p n areas ≡ true → IsAtMost r n)
+      → IsLeastOver levels p areas cells r
       → r ≡ option_map (λ a. a.0) (find (λ a. covers a.1 p) areas)
   least_is areas r s is sound least = by (find (λ a. covers a.1 p) areas) refl r sound least
     where
@@ -109,15 +109,15 @@ module _ (cells : CellMap) (levels : ℕ) (p : Point) where
       at_most n h = let c = area_over p n areas h in first_at_most (λ a. covers a.1 p) n c.rect areas s c.at c.over
 
       by : (f : Option (ℕ × Rectangle)) → find (λ a. covers a.1 p) areas ≡ f → (r : Option ℕ) → IfSome r (λ n. covers_at p n areas ≡ true)
-          → ((level : ℕ) → (n : ℕ) → level < levels → is_in (cell_at level p) n cells ≡ true → covers_at p n areas ≡ true → IsAtMost r n) → r ≡ option_map (λ a. a.0) f
+          → IsLeastOver levels p areas cells r → r ≡ option_map (λ a. a.0) f
       by None e None sound least = refl
       by None e (Some n) sound least = absurd (subst (λ f. IsAtMost (option_map (λ a. a.0) f) n) e (at_most n sound))
       by (Some a) e None sound least =
           let f = first_indexed areas a s is e in
-          absurd (least (level_of a.1) a.0 f.low f.there (ap (is_covered p) f.at ∙ f.over))
+          absurd (least (level_of a.1) a.0 a.1 f.low f.there f.over (ap (is_covered p) f.at ∙ f.over))
       by (Some a) e (Some n) sound least =
           let f = first_indexed areas a s is e in
-          let high : n ≤ a.0 = least (level_of a.1) a.0 f.low f.there (ap (is_covered p) f.at ∙ f.over) in
+          let high : n ≤ a.0 = least (level_of a.1) a.0 a.1 f.low f.there f.over (ap (is_covered p) f.at ∙ f.over) in
           let low : a.0 ≤ n = subst (λ f. IsAtMost (option_map (λ a. a.0) f) n) e (at_most n sound) in
           let same : n ≡ a.0 = omega (arith, high, low) in
           ap (λ k. Some k) same

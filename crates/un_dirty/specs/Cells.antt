@@ -6,7 +6,6 @@ use Rattle.std.specs.Int.{leading_zeros, w32}
 use Rattle.std.specs.List.{AllByRecursion}
 use Rattle.std.specs.Map.{lookup}
 use Rattle.std.specs.BTreeMap.{is_at}
-use Rattle.std.specs.Option.{is_some}
 use Rattle.un_geom.specs.declared.point.Point.{Point}
 use Rattle.un_geom.specs.Rectangle.{Rectangle}
 use Rattle.un_geom.specs.Places.{covers}
@@ -14,9 +13,9 @@ use Rattle.un_dirty.specs.declared.cells.Cell.{Cell}
 use Rattle.un_dirty.specs.declared.cells.Entry.{Entry}
 use Rattle.un_dirty.specs.Areas.{IsUnder}
 
--- the numbers of areas in cells, as the keys of a map
+-- the numbers of areas in cells, as the keys of a map, with their rectangles
 abbrev pub CellMap : Type 0
-CellMap = List (Entry × Unit {0})
+CellMap = List (Entry × Rectangle)
 
 -- cells compare by level, then column, then row
 abbrev pub cell_cmp : Cell → Cell → Ordering
@@ -36,29 +35,33 @@ entry_of k n = record { cell = k; number = n }
 abbrev pub first_entry : Cell → Entry
 first_entry k = entry_of k 0
 
--- the number is in the cell
-abbrev pub is_in : Cell → ℕ → CellMap → Bool
-is_in k n cells = is_some (lookup (is_at (entry_cmp (entry_of k n))) cells)
+-- the number is in the cell, with the rectangle
+abbrev pub IsIn : Cell → ℕ → Rectangle → CellMap → Type 0
+IsIn k n r cells = lookup (is_at (entry_cmp (entry_of k n))) cells ≡ Some r
 
--- each number stays in its cells
-abbrev pub Keeps : CellMap → CellMap → Type 0
-Keeps old new = (k : Cell) → (n : ℕ) → is_in k n old ≡ true → is_in k n new ≡ true
+-- each number stays in its cells with its rectangle, but that of one area only with the area's rectangle
+abbrev pub KeepsFor : ℕ → Rectangle → CellMap → CellMap → Type 0
+KeepsFor area r old new = (k : Cell) → (n : ℕ) → (s : Rectangle) → (n ≡ area → s ≡ r) → IsIn k n s old → IsIn k n s new
 
--- each number but one stays in its cells
+-- each number below one stays in its cells with its rectangle
+abbrev pub KeepsBelow : ℕ → CellMap → CellMap → Type 0
+KeepsBelow first old new = (k : Cell) → (n : ℕ) → (s : Rectangle) → n < first → IsIn k n s old → IsIn k n s new
+
+-- each number but one stays in its cells with its rectangle
 abbrev pub KeepsOthers : ℕ → CellMap → CellMap → Type 0
-KeepsOthers area old new = (k : Cell) → (n : ℕ) → n ≢ area → is_in k n old ≡ true → is_in k n new ≡ true
+KeepsOthers area old new = (k : Cell) → (n : ℕ) → (s : Rectangle) → n ≢ area → IsIn k n s old → IsIn k n s new
 
--- each number but those of some areas stays in its cells
+-- each number but those of some areas stays in its cells with its rectangle
 abbrev pub KeepsBut : List (ℕ × Rectangle) → CellMap → CellMap → Type 0
-KeepsBut gone old new = (k : Cell) → (n : ℕ) → AllByRecursion (λ a. n ≢ a.0) gone → is_in k n old ≡ true → is_in k n new ≡ true
+KeepsBut gone old new = (k : Cell) → (n : ℕ) → (s : Rectangle) → AllByRecursion (λ a. n ≢ a.0) gone → IsIn k n s old → IsIn k n s new
 
--- the number is in each cell of a row, from one cell to a column
-abbrev pub FillsRow : ℕ → Cell → ℕ → CellMap → Type 0
-FillsRow area first last cells = (k : Cell) → k.level ≡ first.level → first.column ≤ k.column → k.column ≤ last → k.row ≡ first.row → is_in k area cells ≡ true
+-- the number is in each cell of a row with the rectangle, from one cell to a column
+abbrev pub FillsRow : ℕ → Rectangle → Cell → ℕ → CellMap → Type 0
+FillsRow area r first last cells = (k : Cell) → k.level ≡ first.level → first.column ≤ k.column → k.column ≤ last → k.row ≡ first.row → IsIn k area r cells
 
--- the number is in each cell from one corner to the other
-abbrev pub FillsBlock : ℕ → Cell → Cell → CellMap → Type 0
-FillsBlock area low high cells = (k : Cell) → k.level ≡ low.level → low.column ≤ k.column → k.column ≤ high.column → low.row ≤ k.row → k.row ≤ high.row → is_in k area cells ≡ true
+-- the number is in each cell with the rectangle, from one corner to the other
+abbrev pub FillsBlock : ℕ → Rectangle → Cell → Cell → CellMap → Type 0
+FillsBlock area r low high cells = (k : Cell) → k.level ≡ low.level → low.column ≤ k.column → k.column ≤ high.column → low.row ≤ k.row → k.row ≤ high.row → IsIn k area r cells
 
 -- the level of a rectangle: the least one whose cells are longer than its longer side, and at most 19
 unfoldable pub level_of : Rectangle → ℕ
@@ -93,20 +96,20 @@ IsAtMost (Some m) n = m ≤ n
 
 -- the number is in the cell, of the rectangle's level, of each point that the rectangle covers
 abbrev pub FillsCells : ℕ → Rectangle → CellMap → Type 0
-FillsCells area r cells = (p : Point) → covers r p ≡ true → is_in (cell_at (level_of r) p) area cells ≡ true
+FillsCells area r cells = (p : Point) → covers r p ≡ true → IsIn (cell_at (level_of r) p) area r cells
 
--- no number in the cell whose area covers the point is less
+-- no number in the cell whose rectangle there and whose area cover the point is less
 abbrev pub IsLeastIn : Cell → Point → List (ℕ × Rectangle) → CellMap → Option ℕ → Type 0
-IsLeastIn k p areas cells r = (n : ℕ) → is_in k n cells ≡ true → covers_at p n areas ≡ true → IsAtMost r n
+IsLeastIn k p areas cells least = (n : ℕ) → (r : Rectangle) → IsIn k n r cells → covers r p ≡ true → covers_at p n areas ≡ true → IsAtMost least n
 
--- no number in the point's cells of so many levels whose area covers the point is less
+-- no number in the point's cells of so many levels whose rectangle there and whose area cover the point is less
 abbrev pub IsLeastOver : ℕ → Point → List (ℕ × Rectangle) → CellMap → Option ℕ → Type 0
-IsLeastOver levels p areas cells r = (level : ℕ) → (n : ℕ) → level < levels → is_in (cell_at level p) n cells ≡ true → covers_at p n areas ≡ true → IsAtMost r n
+IsLeastOver levels p areas cells least = (level : ℕ) → (n : ℕ) → (r : Rectangle) → level < levels → IsIn (cell_at level p) n r cells → covers r p ≡ true → covers_at p n areas ≡ true → IsAtMost least n
 
 -- the number of an area is in the cell, of the area's level, of each point that the area covers
 pub record IsIndexed (cells : CellMap) (levels : ℕ) (a : ℕ × Rectangle) : Type 0 where
   pub low : level_of a.1 < levels
-  pub all : (p : Point) → covers a.1 p ≡ true → is_in (cell_at (level_of a.1) p) a.0 cells ≡ true
+  pub all : (p : Point) → covers a.1 p ≡ true → IsIn (cell_at (level_of a.1) p) a.0 a.1 cells
 
 -- what holds of the parts of each list of areas
 pub record IsKept (areas : List (ℕ × Rectangle)) (next : ℕ) (cells : CellMap) (levels : ℕ) : Type 0 where

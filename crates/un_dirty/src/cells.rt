@@ -2,22 +2,22 @@
 //!
 //! The plane is cut into square cells, once for each of 20 levels: those of level 0 have sides of 4,096 mm, and those of each further level
 //! sides twice as long as those of the level before. An area belongs to the least level whose cells are longer than its longer side, so it
-//! lies in at most four cells of its level. For each of them one ordered map has an entry, whose key is the cell and the area's number.
-//! Keys compare by cell first, so the entries of one cell follow one another in the map, by rising number.
+//! lies in at most four cells of its level. For each of them one ordered map has an entry, whose key is the cell and the area's number, and
+//! whose value is the area's rectangle. Keys compare by cell first, so the entries of one cell follow one another in the map, by rising number.
 //!
 //! A point lies in one cell of each level. An area that covers it has an entry in the point's cell of the area's level. So the least number
-//! of an area over the point is found among the entries of the point's cells: of each cell it is the first whose area covers the point. The
-//! area is looked up by its number, so nothing rests on a cell having no other entries.
+//! of an area over the point is found among the entries of the point's cells: of each cell it is the first whose rectangle covers the point.
+//! That area is looked up by its number, so nothing rests on a cell having no other entries.
 //!
-//! The map has a shared value beside each key. There is nothing to say there, so the entries that one call adds share one empty value, and an
-//! entry takes no memory but its place in a page.
-ghost use Rattle.std.specs.Prelude.{◌≡◌, ◌≢◌, ℕ, ◌+◌, ◌<◌, ◌≤◌, ◌^◌, true, length, IfOk, OnOk, IfSome};
-ghost use Rattle.std.specs.List.{AllByRecursion, enumerate_from};
+//! An area's entries share its rectangle with the map of the areas, so an entry takes no memory but its place in a page.
+ghost use Rattle.std.specs.Prelude.{◌≡◌, ◌≢◌, ◌&&◌, ℕ, ◌+◌, ◌<◌, ◌≤◌, ◌^◌, true, length, IfOk, OnOk, IfSome};
+ghost use Rattle.std.specs.Arc.{arc_value};
+ghost use Rattle.std.specs.List.{AllByRecursion};
 ghost use Rattle.un_geom.specs.declared.point.Point.{Point};
 ghost use Rattle.un_geom.specs.Rectangle.{IsBounded};
 ghost use Rattle.un_geom.specs.Places.{covers};
 ghost use Rattle.un_dirty.specs.declared.cells.Cell.{Cell};
-ghost use Rattle.un_dirty.specs.Cells.{first_entry, is_in, same_cell, level_of, cell_index, cell_at, covers_at, lesser_of, IsLeastIn, IsLeastOver, IsIndexed, FillsRow, FillsBlock, FillsCells, Keeps, KeepsOthers, KeepsBut};
+ghost use Rattle.un_dirty.specs.Cells.{first_entry, same_cell, level_of, cell_index, cell_at, covers_at, lesser_of, IsLeastIn, IsLeastOver, IsIndexed, FillsRow, FillsBlock, FillsCells, IsIn, KeepsFor, KeepsOthers, KeepsBut};
 
 use std::alloc::Global;
 use std::ops::Bound;
@@ -46,8 +46,8 @@ pub(crate) struct Entry {
     number: u64,
 }
 
-/// The cells in which areas lie, with the numbers of the areas.
-pub(crate) type Cells = Paged<Entry, ()>;
+/// The cells in which areas lie, with the numbers of the areas and their rectangles.
+pub(crate) type Cells = Paged<Entry, Rect>;
 
 // The level to which an area belongs.
 #[tactic(auto, unfolding(crate::specs::Cells::level_of))]
@@ -119,13 +119,13 @@ fn put(
     alloc: Global,
     cell: Cell,
     area: u64,
-    unit: &Arc<()>,
+    rect: &Arc<Rect>,
 ) -> Result<(), Memory>
-    ensures here { OnOk result (is_in cell area cells.new ≡ true) }
-    ensures kept { OnOk result (Keeps cells.old cells.new) }
+    ensures here { OnOk result (IsIn cell area (arc_value rect.now) cells.new) }
+    ensures kept { OnOk result (KeepsFor area (arc_value rect.now) cells.old cells.new) }
 {
     let entry = Entry { cell, number: area };
-    cells.put(alloc, entry, Arc::try_clone(unit)?)?;
+    cells.put(alloc, entry, Arc::try_clone(rect)?)?;
     Ok(())
 }
 
@@ -136,11 +136,11 @@ fn put_row(
     first: Cell,
     last: u32,
     area: u64,
-    unit: &Arc<()>,
+    rect: &Arc<Rect>,
 ) -> Result<(), Memory>
     requires { last < 1_048_576 }
-    ensures all { OnOk result (FillsRow area first last cells.new) }
-    ensures kept { OnOk result (Keeps cells.old cells.new) }
+    ensures all { OnOk result (FillsRow area (arc_value rect.now) first last cells.new) }
+    ensures kept { OnOk result (KeepsFor area (arc_value rect.now) cells.old cells.new) }
 {
     for column in first.column..last + 1 {
         put(
@@ -152,7 +152,7 @@ fn put_row(
                 row: first.row,
             },
             area,
-            unit,
+            rect,
         )?;
     }
     Ok(())
@@ -165,12 +165,12 @@ fn put_block(
     low: Cell,
     high: Cell,
     area: u64,
-    unit: &Arc<()>,
+    rect: &Arc<Rect>,
 ) -> Result<(), Memory>
     requires column { high.column < 1_048_576 }
     requires row { high.row < 1_048_576 }
-    ensures all { OnOk result (FillsBlock area low high cells.new) }
-    ensures kept { OnOk result (Keeps cells.old cells.new) }
+    ensures all { OnOk result (FillsBlock area (arc_value rect.now) low high cells.new) }
+    ensures kept { OnOk result (KeepsFor area (arc_value rect.now) cells.old cells.new) }
 {
     for row in low.row..high.row + 1 {
         put_row(
@@ -183,56 +183,30 @@ fn put_block(
             },
             high.column,
             area,
-            unit,
+            rect,
         )?;
     }
     Ok(())
 }
 
-// Puts the number of an area into the cells in which it lies.
-fn put_area(
+/// Puts the number of an area into the cells in which it lies. The area's level.
+pub(crate) fn put_area(
     cells: &mut Cells,
     alloc: Global,
-    rect: &Rect,
     area: u64,
-    unit: &Arc<()>,
-) -> Result<(), Memory>
-    ensures all { OnOk result (FillsCells area rect.now cells.new) }
-    ensures kept { OnOk result (Keeps cells.old cells.new) }
+    rect: &Arc<Rect>,
+) -> Result<u32, Memory>
+    ensures level { IfOk result (λ level. level ≡ level_of (arc_value rect.now)) }
+    ensures bound { IfOk result (λ level. level ≤ 19) }
+    ensures all { OnOk result (FillsCells area (arc_value rect.now) cells.new) }
+    ensures kept { OnOk result (KeepsFor area (arc_value rect.now) cells.old cells.new) }
 {
-    let level = level(rect);
-    let low = low_cell(level, rect);
-    let high = high_cell(level, rect);
-    put_block(cells, alloc, low, high, area, unit)?;
-    Ok(())
-}
-
-/// The cells with the areas of some rectangles, numbered from the first number on, and how many levels are in use.
-pub(crate) fn with_areas(
-    cells: Cells,
-    alloc: Global,
-    levels: u32,
-    first: u64,
-    rects: &[Rect],
-) -> Result<(Cells, u32), Memory>
-    requires few { levels ≤ 20 }
-    requires room { first + length rects.now < 2 ^ 64 }
-    ensures few { IfOk result (λ r. r.1 ≤ 20) }
-    ensures rising { IfOk result (λ r. levels ≤ r.1) }
-    ensures kept { IfOk result (λ r. Keeps cells r.0) }
-    ensures each { IfOk result (λ r. AllByRecursion (IsIndexed r.0 r.1) (enumerate_from first rects.now)) }
-{
-    let unit = Arc::new(alloc, ())?;
-    let mut all = cells;
-    let mut used = levels;
-    let mut number = first;
-    for rect in rects {
-        put_area(&mut all, alloc, rect, number, &unit)?;
-        let above = level(rect) + 1;
-        used = used.max(above);
-        number += 1;
-    }
-    Ok((all, used))
+    let sides = **rect;
+    let level = level(&sides);
+    let low = low_cell(level, &sides);
+    let high = high_cell(level, &sides);
+    put_block(cells, alloc, low, high, area, rect)?;
+    Ok(level)
 }
 
 // Takes the number of an area out of a cell.
@@ -308,13 +282,20 @@ pub(crate) fn without_areas(
     Ok(left)
 }
 
-fn covers_point(areas: &Paged<u64, Rect>, number: u64, p: Point) -> bool
+fn is_over(areas: &Paged<u64, Rect>, number: u64, p: Point) -> bool
     ensures { result ≡ covers_at p number areas.now }
 {
     match areas.get(&number) {
         Some(rect) => rect.covers(p),
         None => false,
     }
+}
+
+// The rectangle of an entry covers the point, and so does the area that has the entry's number.
+fn covers_point(areas: &Paged<u64, Rect>, number: u64, rect: &Rect, p: Point) -> bool
+    ensures { result ≡ (covers rect.now p && covers_at p number areas.now) }
+{
+    rect.covers(p) && is_over(areas, number, p)
 }
 
 // Where the entries of a cell begin.
@@ -339,11 +320,11 @@ fn least_in(areas: &Paged<u64, Rect>, cells: &Cells, cell: Cell, p: Point) -> Op
 {
     // For the proof alone.
     let _len = cells.len();
-    for (entry, _) in cells.range(first_entry(cell)) {
+    for (entry, rect) in cells.range(first_entry(cell)) {
         if !entry.is_in(cell) {
             return None;
         }
-        if covers_point(areas, entry.number, p) {
+        if covers_point(areas, entry.number, rect, p) {
             return Some(entry.number);
         }
     }

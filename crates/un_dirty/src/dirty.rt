@@ -3,9 +3,10 @@ ghost use Rattle.std.specs.Prelude.{◌≡◌, ◌↔◌, ◌<◌, ◌≤◌, �
 ghost use Rattle.std.specs.Option.{option_map};
 ghost use Rattle.std.specs.List.{enumerate_from, AllByRecursion};
 ghost use Rattle.un_geom.specs.Places.{meets, covers};
+ghost use Rattle.un_dirty.specs.Cells.{KeepsBelow, IsIndexed};
 ghost use Rattle.un_dirty.specs.Areas.{no_areas, added, cleared, emptied, least_number, has_area, areas_gone, without_all as all_removed, IsNumbered};
 
-use crate::cells::{Cells, least_over, with_areas, without_areas};
+use crate::cells::{Cells, least_over, put_area, without_areas};
 use std::alloc::{AllocError, Global};
 use std::marker::Model;
 use std::ops::Bound;
@@ -28,6 +29,7 @@ pub struct Dirty {
 }
 
 impl Model for Dirty {
+    ghost use Rattle.un_dirty.specs.Cells.{KeepsBelow, IsIndexed};
     ghost use Rattle.un_dirty.specs.Areas.{DirtyList};
     ghost use Rattle.un_dirty.specs.Cells.{IsKept};
 
@@ -124,8 +126,7 @@ impl Dirty {
             cells,
             levels,
         } = self;
-        let areas = extended(areas, alloc, next, rects)?;
-        let (cells, levels) = with_areas(cells, alloc, levels, next, rects)?;
+        let (areas, cells, levels) = extended(alloc, areas, cells, levels, next, rects)?;
         Ok(Dirty {
             areas,
             next: next + rects.len() as u64,
@@ -200,24 +201,36 @@ impl Dirty {
     }
 }
 
-// The areas, with the rectangles after them.
+// The areas, with the rectangles after them, numbered from the first number on; the cells with these; and how many levels are in use.
 fn extended(
-    areas: Paged<u64, Rect>,
     alloc: Global,
+    areas: Paged<u64, Rect>,
+    cells: Cells,
+    levels: u32,
     first: u64,
     rects: &[Rect],
-) -> Result<Paged<u64, Rect>, Memory>
+) -> Result<(Paged<u64, Rect>, Cells, u32), Memory>
     requires under { AllByRecursion (λ a. a.0 < first) areas }
+    requires few { levels ≤ 20 }
     requires room { first + length rects.now < 2 ^ 64 }
-    ensures { IfOk result (λ m. m ≡ areas ++ enumerate_from first rects.now) }
+    ensures areas { IfOk result (λ r. r.0 ≡ areas ++ enumerate_from first rects.now) }
+    ensures few { IfOk result (λ r. r.2 ≤ 20) }
+    ensures rising { IfOk result (λ r. levels ≤ r.2) }
+    ensures kept { IfOk result (λ r. KeepsBelow first cells r.1) }
+    ensures each { IfOk result (λ r. AllByRecursion (IsIndexed r.1 r.2) (enumerate_from first rects.now)) }
 {
     let mut extended = areas;
+    let mut filled = cells;
+    let mut used = levels;
     let mut number = first;
     for rect in rects {
-        extended.put(alloc, number, Arc::new(alloc, *rect)?)?;
+        let shared = Arc::new(alloc, *rect)?;
+        let level = put_area(&mut filled, alloc, number, &shared)?;
+        extended.put(alloc, number, shared)?;
+        used = used.max(level + 1);
         number += 1;
     }
-    Ok(extended)
+    Ok((extended, filled, used))
 }
 
 fn areas_meeting(

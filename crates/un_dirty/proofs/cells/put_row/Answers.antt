@@ -1,5 +1,6 @@
-use Rattle.std.proofs.Common.{◌≡◌, true, sym, subst, arith}
-use Rattle.un_dirty.specs.Cells.{is_in}
+use Rattle.std.proofs.Common.{◌≡◌, refl, sym, subst, arith}
+use Rattle.std.specs.Arc.{arc_value}
+use Rattle.un_dirty.specs.Cells.{IsIn}
 use Rattle.un_dirty.proofs.Indexed.{one_more}
 use Rattle.un_dirty.proofs.cells.put_row.Goals as goal
 
@@ -9,9 +10,9 @@ loop-column-preserved c =
     let put = c.in_ok-put.ensures in
     record {
       all = λ k level low high row.
-          one_more (λ n. k.column ≡ n → is_in k c.args.area c.put.new.cells ≡ true) c.loop-column.column
-          (λ n below e. put.kept k c.args.area (i.all k level low (omega (arith, below, e)) row))
-          (λ e. subst (λ q. is_in q c.args.area c.put.new.cells ≡ true) (λ j. record { level = sym level j; column = sym e j; row = sym row j }) put.here)
+          one_more (λ n. k.column ≡ n → IsIn k c.args.area (arc_value c.args.rect.now) c.put.new.cells) c.loop-column.column
+          (λ n below e. put.kept k c.args.area (arc_value c.args.rect.now) (λ _. refl) (i.all k level low (omega (arith, below, e)) row))
+          (λ e. subst (λ q. IsIn q c.args.area (arc_value c.args.rect.now) c.put.new.cells) (λ j. record { level = sym level j; column = sym e j; row = sym row j }) put.here)
           k.column high (λ j. k.column);
-      kept = λ k n h. put.kept k n (i.kept k n h);
+      kept = λ k n s same h. put.kept k n s same (i.kept k n s same h);
     }
