@@ -6,7 +6,7 @@ ghost use Rattle.std.specs.Cmp.Lexicographic.{pointwise};
 ghost use Rattle.un_defs.specs.SameStar.{same_tie, same_value, same_controller, same_controllers, same_head, same_rest, same_spot, same_error, same_star};
 
 use crate::assoc::Controller;
-use crate::link::Tie;
+use crate::link::PackedTie;
 use crate::star::{Spot, Star, TopoError};
 
 fn same_values(one: &[(u8, i64)], other: &[(u8, i64)]) -> bool
@@ -21,10 +21,25 @@ fn same_ids(one: &[u64], other: &[u64]) -> bool
     one == other
 }
 
-fn same_ties(one: &[Tie], other: &[Tie]) -> bool
+fn same_tie(one: &PackedTie, other: &PackedTie) -> bool
+    ensures { result ≡ same_tie one.now other.now }
+{
+    one.tie() == other.tie()
+}
+
+/// Whether each pair of links at one place is the same.
+fn same_tie_pairs(one: &[PackedTie], other: &[PackedTie]) -> bool
+    ensures { result ≡ list_all (λ pair. same_tie pair.0 pair.1) (zip one.now other.now) }
+{
+    one.iter()
+        .zip(other)
+        .all(|(tie, other_tie)| same_tie(tie, other_tie))
+}
+
+fn same_ties(one: &[PackedTie], other: &[PackedTie]) -> bool
     ensures { result ≡ pointwise same_tie one.now other.now }
 {
-    one == other
+    one.len() == other.len() && same_tie_pairs(one, other)
 }
 
 fn same_errors(one: &[TopoError], other: &[TopoError]) -> bool

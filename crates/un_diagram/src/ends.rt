@@ -26,7 +26,7 @@ fn ends_by(alloc: Global, nodes: &[Node], spot: &Spot) -> Result<Vec<usize>, All
 {
     let mut ends = Vec::new(alloc);
     for tie in spot.ties.as_slice() {
-        if let Some(end) = place_of(nodes, tie.to) {
+        if let Some(end) = place_of(nodes, tie.to()) {
             ends.push(end)?;
         }
     }

@@ -9,7 +9,7 @@ ghost use Rattle.un_feed_json.specs.Shown.{point, place, link_name, link, error,
 use crate::show::Show;
 use json::Writer;
 use std::alloc::{AllocError, Global};
-use un_defs::{ErrorKind, LinkName, Node, Tie, TopoError};
+use un_defs::{ErrorKind, LinkName, Node, PackedTie, TopoError};
 use un_geom::Point;
 use un_schema::Schema;
 use un_tiers::Tiers;
@@ -99,15 +99,15 @@ fn show_node(to: Node, out: &mut Writer) -> Result<(), AllocError>
 }
 
 // Writes a link.
-fn show_link(tie: &Tie, out: &mut Writer) -> Result<(), AllocError>
+fn show_link(tie: &PackedTie, out: &mut Writer) -> Result<(), AllocError>
     ensures ok { OnOk result (out.new.tokens ≡ out.old.tokens ++ json_tokens (outline (link tie.now))) }
     ensures before { out.new.before ≡ out.old.before }
 {
     out.begin_array()?;
-    show_link_name(tie.name, out)?;
-    show_node(tie.to, out)?;
-    out.boolean(tie.out)?;
-    out.boolean(tie.back)?;
+    show_link_name(tie.name(), out)?;
+    show_node(tie.to(), out)?;
+    out.boolean(tie.out())?;
+    out.boolean(tie.back())?;
     out.end_array()
 }
 
@@ -155,7 +155,7 @@ impl Show for u64 {
     }
 }
 
-impl Show for Tie {
+impl Show for PackedTie {
     ghost use Rattle.std.specs.Prelude.{⊤};
     ghost use Rattle.un_feed_json.specs.Shown.{link};
 

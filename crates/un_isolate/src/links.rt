@@ -10,7 +10,7 @@ ghost use Rattle.un_isolate.specs.Links.{HasLink, LeadInside, AreLinksOf, AddsLi
 use crate::entries::controls;
 use smallvec::SmallVec;
 use std::alloc::{AllocError, Global};
-use un_defs::{Barriers, LinkName, Node, Tie};
+use un_defs::{Barriers, LinkName, Node, PackedTie};
 use un_walk::Seen;
 
 /// The places to which a place has links. Up to four lie in the value itself.
@@ -41,12 +41,12 @@ fn place_of(nodes: &[Seen], node: Node) -> Option<usize>
 }
 
 /// The place to which a walk goes from the node by the link, if it does.
-fn end_of(nodes: &[Seen], tier: Option<u8>, one: &Seen, tie: &Tie) -> Option<usize>
+fn end_of(nodes: &[Seen], tier: Option<u8>, one: &Seen, tie: &PackedTie) -> Option<usize>
     requires { IsStrictlySortedBy node_cmp (nodes_of nodes.now) }
     ensures { (p : ℕ) → (result ≡ Some p) ↔ IsEndOf tier nodes.now one.now tie.now p }
 {
-    let end = place_of(nodes, tie.to)?;
-    if is_shut(tier, tie.name, one, &nodes[end]) {
+    let end = place_of(nodes, tie.to())?;
+    if is_shut(tier, tie.name(), one, &nodes[end]) {
         None
     } else {
         Some(end)

@@ -11,7 +11,7 @@ ghost use Rattle.un_loops.specs.Network.{is_passable, IsJoined, AreWellLinked, I
 use crate::link::Link;
 use crate::names::Names;
 use std::alloc::{AllocError, Global};
-use un_defs::{Barriers, Ground, LinkName, Tie};
+use un_defs::{Barriers, Ground, LinkName, PackedTie};
 use un_walk::{Chord, Found};
 
 /// The place from which a place was found, and the link that led there.
@@ -52,7 +52,7 @@ impl<'a> Graph<'a> {
         })
     }
 
-    fn add_link(&mut self, link: Link, tie: &'a Tie) -> Result<(), AllocError>
+    fn add_link(&mut self, link: Link, tie: &'a PackedTie) -> Result<(), AllocError>
         ensures adds { OnOk result (AddsLink self.old self.new link tie.now.name) }
         ensures parents { self.new.parents ≡ self.old.parents }
         ensures opened { self.new.opened ≡ self.old.opened }
@@ -96,7 +96,7 @@ impl<'a> Graph<'a> {
         match self.parents[chord.to] {
             Some(parent) => {
                 parent.place == chord.from
-                    && is_same_name(self.names.at(parent.link), chord.tie.name)
+                    && is_same_name(self.names.at(parent.link), chord.tie.name())
             }
             None => false,
         }

@@ -7,14 +7,14 @@ ghost use Rattle.un_loops.specs.Marked.{segment_if, marked_segments};
 use std::alloc::{AllocError, Global};
 use std::marker::Model;
 use un_ask::Segment;
-use un_defs::{LinkName, Tie};
+use un_defs::{LinkName, PackedTie};
 
 /// A list of names. Each is read where it stands, in the link of an entry.
 ///
 /// Contracts see the names.
 #[derive(Drop)]
 pub(crate) struct Names<'a> {
-    ties: Vec<&'a Tie>,
+    ties: Vec<&'a PackedTie>,
 }
 
 impl<'a> Model for Names<'a> {
@@ -36,13 +36,17 @@ fn segment_if(name: LinkName, is_marked: bool) -> Option<Segment>
 }
 
 // The segments among the names of links whose marks are on.
-fn marked_among(alloc: Global, ties: &[&Tie], marks: &[bool]) -> Result<Vec<Segment>, AllocError>
+fn marked_among(
+    alloc: Global,
+    ties: &[&PackedTie],
+    marks: &[bool],
+) -> Result<Vec<Segment>, AllocError>
     ensures { IfOk result (λ found. found.items
         ≡ filter_map (λ p. segment_if p.0.now.name p.1) (zip ties.now marks.now)) }
 {
     ties.iter()
         .zip(marks)
-        .filter_map(|(tie, is_marked)| segment_if(tie.name, *is_marked))
+        .filter_map(|(tie, is_marked)| segment_if(tie.name(), *is_marked))
         .collect(alloc)
 }
 
@@ -57,7 +61,7 @@ impl<'a> Names<'a> {
     }
 
     /// Adds the name of a link.
-    pub(crate) fn add(&mut self, tie: &'a Tie) -> Result<(), AllocError>
+    pub(crate) fn add(&mut self, tie: &'a PackedTie) -> Result<(), AllocError>
         ensures { OnOk result (self.new ≡ self.old ++ tie.now.name ∷ []) }
     {
         self.ties.push(tie)?;
@@ -69,7 +73,7 @@ impl<'a> Names<'a> {
         requires { index < length self.now }
         ensures { slice_get self.now index ≡ Some result }
     {
-        self.ties[index].name
+        self.ties[index].name()
     }
 
     /// The segments among the names whose marks are on.

@@ -6,7 +6,7 @@ ghost use Rattle.un_path.specs.Hops.{cost_by};
 
 use un_ask::Weight;
 use un_attrs::Attrs;
-use un_defs::{LinkName, Spot, Tie};
+use un_defs::{LinkName, PackedTie, Spot};
 
 fn is_segment(name: LinkName) -> bool
     ensures { result ≡ is_segment name }
@@ -35,10 +35,10 @@ fn segment_cost(weight: Weight, attrs: &Attrs) -> u64
 }
 
 /// What a link costs, given the entry of the node that it is left from.
-pub(crate) fn link_cost(weight: Weight, spot: &Spot, tie: &Tie) -> u64
+pub(crate) fn link_cost(weight: Weight, spot: &Spot, tie: &PackedTie) -> u64
     ensures { result ≡ cost_by weight spot.now tie.now }
 {
-    if is_segment(tie.name) {
+    if is_segment(tie.name()) {
         segment_cost(weight, &spot.attrs)
     } else {
         0

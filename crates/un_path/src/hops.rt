@@ -49,7 +49,7 @@ fn hops_by(
 {
     let mut hops = Vec::new(alloc);
     for tie in spot.ties.as_slice() {
-        if let Some(to) = place_of(nodes, tie.to) {
+        if let Some(to) = place_of(nodes, tie.to()) {
             hops.push(Hop {
                 to,
                 cost: link_cost(weight, spot, tie),

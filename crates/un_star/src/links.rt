@@ -12,7 +12,7 @@ use crate::order::rising_ties;
 use crate::permit::permitted;
 use std::alloc::{AllocError, Global};
 use un_defs::link::{TieList, Ties};
-use un_defs::{Assoc, AssocKind, Flow, LinkName, Node, Port, Row, Rows, Tie};
+use un_defs::{Assoc, AssocKind, Flow, LinkName, Node, PackedTie, Port, Row, Rows, Tie};
 use un_schema::{Class, Schema};
 use un_terms::TermConfig;
 
@@ -52,7 +52,7 @@ fn add(ties: &mut TieList, tie: Option<Tie>) -> Result<(), AllocError>
     ensures { OnOk result (ties.new.items ≡ ties.old.items ++ option_to_list tie) }
 {
     if let Some(tie) = tie {
-        ties.push(tie)?;
+        ties.push(PackedTie::new(tie))?;
     }
     Ok(())
 }

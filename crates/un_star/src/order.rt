@@ -7,7 +7,7 @@ ghost use Rattle.un_star.specs.Named.{named};
 use std::alloc::{AllocError, Global};
 use un_defs::link::TieList;
 use un_defs::order::rising;
-use un_defs::{LinkName, Tie, TopoError};
+use un_defs::{LinkName, PackedTie, TopoError};
 
 /// A link as one of its two ends has it, which compares by the link's name.
 #[derive(Clone, Copy)]
@@ -15,25 +15,25 @@ use un_defs::{LinkName, Tie, TopoError};
 struct ByName {
     name: LinkName,
     #[derive_where(skip(EqHashOrd))]
-    tie: Tie,
+    tie: PackedTie,
 }
 
-fn by_name(tie: &Tie) -> ByName
+fn by_name(tie: &PackedTie) -> ByName
     ensures { result ≡ named tie.now }
 {
     ByName {
-        name: tie.name,
+        name: tie.name(),
         tie: *tie,
     }
 }
 
-fn with_names(alloc: Global, ties: &[Tie]) -> Result<Vec<ByName>, AllocError>
+fn with_names(alloc: Global, ties: &[PackedTie]) -> Result<Vec<ByName>, AllocError>
     ensures { IfOk result (λ all. all.items ≡ map named ties.now) }
 {
     ties.iter().map(|tie| by_name(tie)).collect(alloc)
 }
 
-fn without_names(alloc: Global, all: &[ByName]) -> Result<Vec<Tie>, AllocError>
+fn without_names(alloc: Global, all: &[ByName]) -> Result<Vec<PackedTie>, AllocError>
     ensures { IfOk result (λ ties. ties.items ≡ map (λ b. b.tie) all.now) }
 {
     all.iter().map(|named| named.tie).collect(alloc)
@@ -41,14 +41,14 @@ fn without_names(alloc: Global, all: &[ByName]) -> Result<Vec<Tie>, AllocError>
 
 /// Whether the name of each link is less than that of the next one.
 #[tactic(auto, using(crate::proofs::OrdersAlike::names_alike))]
-fn are_rising(ties: &[Tie]) -> bool
+fn are_rising(ties: &[PackedTie]) -> bool
     ensures { result ≡ true → rising tie_cmp ties.now ≡ ties.now }
 {
     let count = ties.len();
     for done in 1..count {
         if ties[count - done - 1]
-            .name
-            .cmp(&ties[count - done].name)
+            .name()
+            .cmp(&ties[count - done].name())
             .is_ge()
         {
             return false;

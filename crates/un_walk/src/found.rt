@@ -19,7 +19,7 @@ use crate::strays::Strays;
 use crate::traversal::is_same_point;
 use smallvec::SmallVec;
 use std::alloc::{AllocError, Global};
-use un_defs::{Ground, Node, Tie};
+use un_defs::{Ground, Node, PackedTie};
 use un_geom::Point;
 use un_steps::Steps;
 
@@ -40,14 +40,14 @@ pub(crate) struct Item<'a> {
     pub(crate) seen: Seen<'a>,
     pub(crate) number: usize,
     pub(crate) from: usize,
-    pub(crate) via: Option<&'a Tie>,
+    pub(crate) via: Option<&'a PackedTie>,
 }
 
 /// How a node was found: from the node at a place, by a link.
 #[derive(Clone, Copy)]
 pub struct Origin<'a> {
     pub place: usize,
-    pub tie: &'a Tie,
+    pub tie: &'a PackedTie,
 }
 
 /// A link that led a walk from the node at a place to one that it had found before, at the same place or a later one.
@@ -55,7 +55,7 @@ pub struct Origin<'a> {
 pub struct Chord<'a> {
     pub from: usize,
     pub to: usize,
-    pub tie: &'a Tie,
+    pub tie: &'a PackedTie,
 }
 
 /// A list of distinct nodes that knows how each was found, and which links led to nodes found before.
@@ -208,7 +208,12 @@ impl<'a> Found<'a> {
     }
 
     // Adds a chord, if a link led from the one place to the other, and the other is the same or a later one.
-    fn add_chord(&mut self, from: usize, to: usize, via: Option<&'a Tie>) -> Result<(), AllocError>
+    fn add_chord(
+        &mut self,
+        from: usize,
+        to: usize,
+        via: Option<&'a PackedTie>,
+    ) -> Result<(), AllocError>
         ensures chords { OnOk result (chords self.new ≡ chords self.old ++ chord_if from to via.entry) }
         ensures points { self.new.points ≡ self.old.points }
         ensures visited { self.new.visited ≡ self.old.visited }
@@ -328,7 +333,7 @@ impl<'a> Found<'a> {
         over: &'a G,
         node: Node,
         from: usize,
-        via: Option<&'a Tie>,
+        via: Option<&'a PackedTie>,
         steps: &mut Steps<L>,
     ) -> Result<(), AllocError>
         requires over { IsFoundOver (G.stars_and_areas over.now) self.old }

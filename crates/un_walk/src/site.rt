@@ -73,7 +73,7 @@ fn ties_away(spot: &Spot, at: Point) -> usize
     spot.ties
         .as_slice()
         .iter()
-        .filter(|tie| !is_same_point(tie.to.at, at))
+        .filter(|tie| !is_same_point(tie.to().at, at))
         .count()
 }
 

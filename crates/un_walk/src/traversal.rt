@@ -13,7 +13,7 @@ ghost use Rattle.un_walk.specs.Traced.{Traces, AreDoneBefore};
 use crate::entries::is_controlled;
 use crate::found::Found;
 use std::alloc::{AllocError, Global};
-use un_defs::{Barriers, Ground, LinkName, Mode, Node, Spot, Star, Tie};
+use un_defs::{Barriers, Ground, LinkName, Mode, Node, PackedTie, Spot, Star};
 use un_geom::Point;
 use un_steps::Steps;
 
@@ -26,13 +26,13 @@ pub(crate) struct Place<'a> {
     pub(crate) spot: &'a Spot,
 }
 
-fn mode_takes(mode: Mode, tie: &Tie) -> bool
+fn mode_takes(mode: Mode, tie: &PackedTie) -> bool
     ensures { result ≡ mode_takes mode tie.now }
 {
     match mode {
         Mode::Any => true,
-        Mode::Along => tie.out,
-        Mode::Against => tie.back,
+        Mode::Along => tie.out(),
+        Mode::Against => tie.back(),
     }
 }
 
@@ -76,7 +76,7 @@ fn is_far_end_controlled<G: Ground, L>(
 fn is_shut<G: Ground, L>(
     over: &G,
     place: &Place,
-    tie: &Tie,
+    tie: &PackedTie,
     barriers: &Barriers,
     steps: &mut Steps<L>,
 ) -> bool
@@ -86,9 +86,9 @@ fn is_shut<G: Ground, L>(
     ensures never_falls { steps.old ≤ steps.new }
 {
     match barriers.tier {
-        Some(tier) if is_path(tie.name) => {
+        Some(tier) if is_path(tie.name()) => {
             is_controlled(place.star, place.node.port, tier)
-                || is_far_end_controlled(over, place, tie.to, tier, steps)
+                || is_far_end_controlled(over, place, tie.to(), tier, steps)
         }
         _ => false,
     }
@@ -98,7 +98,7 @@ fn is_shut<G: Ground, L>(
 fn goes_by<G: Ground, L>(
     over: &G,
     place: &Place,
-    tie: &Tie,
+    tie: &PackedTie,
     mode: Mode,
     barriers: &Barriers,
     steps: &mut Steps<L>,
@@ -141,7 +141,7 @@ pub(crate) fn follow<'a, G: Ground, L>(
 {
     for tie in place.spot.ties.as_slice() {
         if goes_by(over, place, tie, mode, barriers, steps) {
-            found.add(alloc, over, tie.to, place.number, Some(tie), steps)?;
+            found.add(alloc, over, tie.to(), place.number, Some(tie), steps)?;
         }
     }
     Ok(())

@@ -12,7 +12,7 @@ use std::cell::Cell;
 use un_attrs::{Attrs, Cats};
 use un_defs::link::{TieList, Ties};
 use un_defs::star::{Spots, TopoErrors};
-use un_defs::{Ground, Ids, LinkName, Node, Port, Spot, Star, Tie};
+use un_defs::{Ground, Ids, LinkName, Node, PackedTie, Port, Spot, Star, Tie};
 use un_geom::Point;
 use un_schema::Class;
 
@@ -143,9 +143,10 @@ fn spot(alloc: Global, node: Node, ties: &[Tie]) -> Result<Spot, AllocError> {
     let Ok(attrs) = Attrs::new(&[]) else {
         return Err(AllocError);
     };
+    let packed = ties.iter().map(|tie| PackedTie::new(*tie)).collect(alloc)?;
     Ok(Spot {
         port: node.port,
-        ties: Ties::new(TieList::from_slice(alloc, ties)?),
+        ties: Ties::new(TieList::from_vec(packed)),
         kind: 0,
         class: Class::Device,
         controller: None,

@@ -8,7 +8,7 @@ ghost use Rattle.un_feed_json.specs.Forms.{association_of, coincidence_of, error
 use crate::read::fields::{coordinate_at, has_length, id_at, number_at, port_at};
 use serde_json::Value;
 use std::alloc::{AllocError, Global};
-use un_defs::{ErrorKind, LinkName, Node, Tie, TopoError};
+use un_defs::{ErrorKind, LinkName, Node, PackedTie, Tie, TopoError};
 use un_geom::Point;
 use un_json::form::Form;
 use un_json::scalar::count_from_to;
@@ -127,15 +127,15 @@ fn truth_at(place: usize, value: &Value) -> Option<bool>
     value.get(place)?.as_bool()
 }
 
-fn tie(value: &Value) -> Option<Tie>
+fn tie(value: &Value) -> Option<PackedTie>
     ensures { result ≡ tie_from (view value.now) }
 {
-    Some(Tie {
+    Some(PackedTie::new(Tie {
         name: name_at(0, value)?,
         to: node_of_link(value)?,
         out: truth_at(6, value)?,
         back: truth_at(7, value)?,
-    })
+    }))
 }
 
 /// A link.
@@ -144,11 +144,11 @@ pub(crate) struct Link;
 impl Form for Link {
     ghost use Rattle.un_feed_json.specs.Forms.{tie_of};
 
-    type Out = Tie;
+    type Out = PackedTie;
 
     ghost form = { tie_of };
 
-    fn read(_alloc: Global, value: &Value) -> Result<Option<Tie>, AllocError> {
+    fn read(_alloc: Global, value: &Value) -> Result<Option<PackedTie>, AllocError> {
         Ok(if has_length(8, value) {
             tie(value)
         } else {

@@ -1,17 +1,12 @@
-use Rattle.std.proofs.Common.{◌≡◌, ℕ, pos, false, List, [], get_or, take, take_all, sym, ap, subst, subst₂, ◌∙◌}
+use Rattle.std.proofs.Common.{◌≡◌, ℕ, ◌+◌, List, [], ◌∷◌, ◌++◌, take, take_all, sym, ap, subst, subst₂, ◌∙◌}
 use Rattle.std.specs.Option.{option_copied, option_map_or}
 use Rattle.std.proofs.lemmas.List.{take_more}
 use Rattle.smallvec.specs.SmallVec.{SmallVec}
 use Rattle.un_defs.specs.declared.link.Tie.{Tie}
-use Rattle.un_defs.specs.declared.link.LinkName.TheVariants.{Seg}
 use Rattle.un_isolate.specs.Entries.{ties_by}
 use Rattle.un_isolate.proofs.Searching.{AreEndsOf, ends_with, ends_without, ends_done}
 use Rattle.un_isolate.proofs.links.ends_of.Goals as goal
 use Rattle.un_isolate.proofs.links.ends_of.Goals.{in-Some-end_of+in_ok-push, in_default-end_of}
-
--- what a read past the end would give
-abbrev no_tie : Tie
-no_tie = record { name = Seg 0 0; to = record { port = record { feature = 0; number = 0 }; at = record { x = pos 0; y = pos 0; z = pos 0 } }; out = false; back = false }
 
 pub loop-tie-preserved : goal.loop-tie-preserved
 loop-tie-preserved c =
@@ -20,8 +15,8 @@ loop-tie-preserved c =
     let v = c.args.one.now in
     let ties : List Tie = c.as_slice-tie-items.result.now in
     let k = c.loop-tie.tie-index in
-    let tie : Tie = get_or ties k no_tie in
-    let more = sym (take_more ties k no_tie c.loop-tie-test.true) in
+    let tie : Tie = c.tie-item.result in
+    let more : take k ties ++ tie ∷ [] ≡ take (k + 1) ties = ap (λ t. take k ties ++ t ∷ []) c.tie-item.is ∙ sym (take_more ties k tie c.loop-tie-test.true) in
     elim c.match-end_of.branch [
       | in-Some-end_of+in_ok-push w ↦
           subst₂ (AreEndsOf nodes c.requires tier v) more (sym (ap (λ (e : SmallVec ℕ). e.items) w.ends-is ∙ w.in_ok-push.ensures.ok))

@@ -2,7 +2,6 @@ use Rattle.std.proofs.Common.{◌≡◌, ◌<◌, ℕ, false, inl, inr, List, le
 use Rattle.std.specs.Prelude.{slice_get, Contains}
 use Rattle.std.proofs.lemmas.Bool.{cases_eq}
 use Rattle.std.proofs.lemmas.Option.{slice_get-get_or, slice_get_within}
-use Rattle.un_defs.specs.declared.link.LinkName.TheVariants.{Seg}
 use Rattle.un_defs.proofs.LinkCases.{some_same}
 use Rattle.un_walk.specs.declared.found.Chord.{Chord}
 use Rattle.un_walk.specs.Found.{nodes}
@@ -13,22 +12,11 @@ use Rattle.un_loops.proofs.Building.{link_within, end_inside, chord, has_chord, 
 use Rattle.un_loops.proofs.Pushing.{contains_at}
 use Rattle.un_loops.proofs.graph.graph_of.Goals as goal
 
--- what is read past the end of a list of chords
-abbrev no_chord : Chord
-no_chord = record {
-  from = 0;
-  to = 0;
-  tie = record {
-    ref_ptr = (0, 0);
-    now = record { name = Seg 0 0; to = record { port = record { feature = 0; number = 0 }; at = record { x = pos 0; y = pos 0; z = pos 0 } }; out = false; back = false };
-  };
-}
+chord_at : (xs ys : List Chord) (i : ℕ) (d : Chord) → d ≡ get_or xs i d → xs ≡ ys → i < length xs → slice_get ys i ≡ Some d
+chord_at xs ys i d is same inside = subst (λ l. slice_get l i ≡ Some d) same (slice_get-get_or xs i d inside ∙ ap Some (sym is))
 
-chord_at : (xs ys : List Chord) (i : ℕ) → xs ≡ ys → i < length xs → slice_get ys i ≡ Some (get_or xs i no_chord)
-chord_at xs ys i same inside = subst (λ l. slice_get l i ≡ Some (get_or xs i no_chord)) same (slice_get-get_or xs i no_chord inside)
-
-stands_at : (xs ys : List Chord) (i : ℕ) → xs ≡ ys → i < length xs → Contains ys (get_or xs i no_chord)
-stands_at xs ys i same inside = contains_at ys i (get_or xs i no_chord) (chord_at xs ys i same inside)
+stands_at : (xs ys : List Chord) (i : ℕ) (d : Chord) → d ≡ get_or xs i d → xs ≡ ys → i < length xs → Contains ys d
+stands_at xs ys i d is same inside = contains_at ys i d (chord_at xs ys i d is same inside)
 
 pub add_chord-requires-clause-inside : goal.add_chord-requires-clause-inside
 add_chord-requires-clause-inside g c =
@@ -37,13 +25,13 @@ add_chord-requires-clause-inside g c =
     let f = c.args.found.now in
     let i = c.loop-chord.chord-index in
     let xs : List Chord = c.chords-chord-items.result.now in
-    let stands = stands_at xs (chords f) i c.chords-chord-items.ensures c.loop-chord-test.true in
-    omega (arith, end_inside (g.G.Ground.stars_and_areas c.args.over.now) c.args.barriers.now f graph graph (length (nodes f)) h (get_or xs i no_chord) stands refl, h.count)
+    let stands = stands_at xs (chords f) i c.chord-item.result c.chord-item.is c.chords-chord-items.ensures c.loop-chord-test.true in
+    omega (arith, end_inside (g.G.Ground.stars_and_areas c.args.over.now) c.args.barriers.now f graph graph (length (nodes f)) h c.chord-item.result stands refl, h.count)
 
 pub add_chord-requires-clause-opened : goal.add_chord-requires-clause-opened
 add_chord-requires-clause-opened g c =
     let h = c.loop-chord.invariant.over in
-    let inside : (get_or c.chords-chord-items.result.now c.loop-chord.chord-index no_chord).to < length c.loop-chord.graph.parents.items = add_chord-requires-clause-inside g c in
+    let inside : c.chord-item.result.to < length c.loop-chord.graph.parents.items = add_chord-requires-clause-inside g c in
     omega (arith, inside, h.count, h.all_opened)
 
 pub add_chord-requires-clause-named : goal.add_chord-requires-clause-named
@@ -51,7 +39,7 @@ add_chord-requires-clause-named g c = λ u up.
     let h = c.loop-chord.invariant.over in
     let graph = c.loop-chord.graph in
     let f = c.args.found.now in
-    let one : Chord = get_or c.chords-chord-items.result.now c.loop-chord.chord-index no_chord in
+    let one : Chord = c.chord-item.result in
     let inside : one.to < length graph.parents.items = add_chord-requires-clause-inside g c in
     link_within (g.G.Ground.stars_and_areas c.args.over.now) c.args.barriers.now f graph graph (length (nodes f)) h one.to u (omega (arith, inside, h.count)) up
 
@@ -65,14 +53,14 @@ loop-chord-preserved g c =
     let new : Graph = c.add_chord.new.self in
     let k = c.loop-chord.chord-index in
     let xs : List Chord = c.chords-chord-items.result.now in
-    let one : Chord = get_or xs k no_chord in
-    let stands = stands_at xs (chords f) k c.chords-chord-items.ensures c.loop-chord-test.true in
+    let one : Chord = c.chord-item.result in
+    let stands = stands_at xs (chords f) k one c.chord-item.is c.chords-chord-items.ensures c.loop-chord-test.true in
     let adds = c.in_ok-add_chord.ensures in
     record {
       over = chord G B f old new (length (nodes f)) h.over one stands refl adds;
       done = λ i d low at passable. elim (cases_eq i k) [
         | inl e ↦
-            let here : slice_get (chords f) k ≡ Some one = chord_at xs (chords f) k c.chords-chord-items.ensures c.loop-chord-test.true in
+            let here : slice_get (chords f) k ≡ Some one = chord_at xs (chords f) k one c.chord-item.is c.chords-chord-items.ensures c.loop-chord-test.true in
             let same : one ≡ d = some_same one d (sym here ∙ ap (slice_get (chords f)) (sym e) ∙ at) in
             subst (λ (x : Chord). Contains new.names x.tie.now.name) same
             (has_chord G B f old new (length (nodes f)) h.over one stands refl adds
