@@ -1,5 +1,5 @@
 -- Forms of names, with numbers for what a name has, and directions of flow beside them.
-use Rattle.std.specs.Prelude.{◌≡◌, ℕ, zero, suc, ◌+◌, ◌*◌, ◌/◌, ◌%◌, ◌==◌, Bool, cond}
+use Rattle.std.specs.Prelude.{ℕ, zero, suc, ◌+◌, ◌*◌, ◌/◌, ◌%◌, ◌==◌, Bool, cond}
 use Rattle.un_defs.specs.declared.link.LinkName.{LinkName}
 use Rattle.un_defs.specs.declared.link.LinkName.TheVariants.{Seg, Path, Coin, Assoc}
 

@@ -1,5 +1,5 @@
 -- Links by their numbers.
-use Rattle.std.specs.Prelude.{◌≡◌, ℕ, ◌%◌}
+use Rattle.std.specs.Prelude.{◌≡◌, ◌%◌}
 use Rattle.un_defs.specs.declared.link.Tie.{Tie}
 use Rattle.un_defs.specs.declared.link.PackedTie.TheInside.{Inside}
 use Rattle.un_defs.specs.NameForms.{has_out, has_back, name_by, form_of, first_of, second_of, low_of, high_of, bits_of}

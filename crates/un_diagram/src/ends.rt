@@ -7,7 +7,7 @@ ghost use Rattle.un_defs.specs.Orders.{node_cmp};
 ghost use Rattle.un_diagram.specs.Places.{IsAt, IsEndBy, AreReached, AreEnds};
 
 use std::alloc::{AllocError, Global};
-use un_defs::{Barriers, Ground, Node, Spot};
+use un_defs::{Barriers, Ground, Node, PackedSpot};
 use un_walk::Seen;
 
 /// The place of a node among the reached ones.
@@ -19,13 +19,13 @@ fn place_of(nodes: &[Node], node: Node) -> Option<usize>
 }
 
 /// The places to which the links of an entry lead.
-fn ends_by(alloc: Global, nodes: &[Node], spot: &Spot) -> Result<Vec<usize>, AllocError>
+fn ends_by(alloc: Global, nodes: &[Node], spot: &PackedSpot) -> Result<Vec<usize>, AllocError>
     requires { IsStrictlySortedBy node_cmp nodes.now }
     ensures { IfOk result (λ ends. (j : ℕ)
         → Contains ends.items j ↔ IsEndBy nodes.now spot.now.ties j) }
 {
     let mut ends = Vec::new(alloc);
-    for tie in spot.ties.as_slice() {
+    for tie in spot.ties() {
         if let Some(end) = place_of(nodes, tie.to()) {
             ends.push(end)?;
         }

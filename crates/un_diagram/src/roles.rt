@@ -9,7 +9,7 @@ ghost use Rattle.un_diagram.specs.Places.{is_chosen_by, role_by};
 use std::alloc::{AllocError, Global};
 use un_ask::DiagramAsk;
 use un_conds::{Cond, holds};
-use un_defs::{Node, Spot};
+use un_defs::{Node, PackedSpot};
 use un_walk::Seen;
 
 /// What becomes of a reached node.
@@ -23,10 +23,10 @@ pub(crate) enum Role {
     Shut,
 }
 
-fn meets(keep: &Cond, spot: &Spot) -> bool
+fn meets(keep: &Cond, spot: &PackedSpot) -> bool
     ensures { result ≡ meets keep.now spot.now }
 {
-    holds(keep, spot.attrs.pairs(), spot.cats.0)
+    holds(keep, spot.attrs(), spot.cats().0)
 }
 
 /// Whether the node is a start, of which a request has few.

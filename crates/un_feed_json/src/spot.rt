@@ -1,5 +1,6 @@
 //! The entries of a star, written as tokens of JSON.
 ghost use Rattle.std.specs.Prelude.{◌≡◌, [], ◌∷◌, ◌++◌, OnOk, decimal};
+ghost use Rattle.std.specs.Option.{option_copied};
 ghost use Rattle.json.specs.Token.{begin_array, end_array, number, string};
 ghost use Rattle.json.specs.Tree.{json_tokens};
 ghost use Rattle.serde_json.specs.Written.{outline};
@@ -11,7 +12,7 @@ use crate::named::show_attributes;
 use crate::show::{Show, show_list};
 use json::Writer;
 use std::alloc::{AllocError, Global};
-use un_defs::{Controller, Spot};
+use un_defs::{Controller, PackedSpot};
 use un_schema::Schema;
 use un_tiers::Tiers;
 
@@ -39,11 +40,11 @@ fn tier_text(tiers: &Tiers, tier: u8) -> &str
 // Writes the controller of an entry, or null if it has none.
 fn show_controller(
     tiers: &Tiers,
-    held: &Option<Controller>,
+    held: Option<&Controller>,
     out: &mut Writer,
 ) -> Result<(), AllocError>
     ensures ok { OnOk result (out.new.tokens
-        ≡ out.old.tokens ++ json_tokens (outline (controller tiers.now held.now))) }
+        ≡ out.old.tokens ++ json_tokens (outline (controller tiers.now (option_copied held.entry)))) }
     ensures before { out.new.before ≡ out.old.before }
 {
     let Some(held) = held else {
@@ -59,7 +60,7 @@ fn show_controller(
 fn show_head(
     alloc: Global,
     schema: &Schema,
-    spot: &Spot,
+    spot: &PackedSpot,
     out: &mut Writer,
 ) -> Result<(), AllocError>
     ensures ok { OnOk result (out.new.tokens ≡ out.old.tokens
@@ -69,10 +70,11 @@ fn show_head(
     ensures before { out.new.before ≡ out.old.before }
 {
     out.begin_array()?;
-    out.u64(spot.port.feature)?;
-    out.u64(spot.port.number as u64)?;
-    out.string(kind_text(schema, spot.kind))?;
-    show_attributes(alloc, schema, spot.attrs.pairs(), out)
+    let port = spot.port();
+    out.u64(port.feature)?;
+    out.u64(port.number as u64)?;
+    out.string(kind_text(schema, spot.kind()))?;
+    show_attributes(alloc, schema, spot.attrs(), out)
 }
 
 // Writes the end of an entry: its container, its contents and its structures.
@@ -80,7 +82,7 @@ fn show_associations(
     alloc: Global,
     schema: &Schema,
     tiers: &Tiers,
-    spot: &Spot,
+    spot: &PackedSpot,
     out: &mut Writer,
 ) -> Result<(), AllocError>
     ensures ok { OnOk result (out.new.tokens ≡ out.old.tokens
@@ -88,13 +90,13 @@ fn show_associations(
         ++ (json_tokens (outline (counts spot.now.structures)) ++ end_array ∷ []))) }
     ensures before { out.new.before ≡ out.old.before }
 {
-    out.u64(spot.container)?;
-    show_list(alloc, schema, tiers, spot.contents.as_slice(), out)?;
-    show_list(alloc, schema, tiers, spot.structures.as_slice(), out)?;
+    out.u64(spot.container())?;
+    show_list(alloc, schema, tiers, spot.contents(), out)?;
+    show_list(alloc, schema, tiers, spot.structures(), out)?;
     out.end_array()
 }
 
-impl Show for Spot {
+impl Show for PackedSpot {
     ghost use Rattle.un_feed_json.specs.Shown.{entry};
 
     ghost json_value = { entry };
@@ -107,8 +109,8 @@ impl Show for Spot {
         out: &mut Writer,
     ) -> Result<(), AllocError> {
         show_head(alloc, schema, self, out)?;
-        show_list(alloc, schema, tiers, self.ties.as_slice(), out)?;
-        show_controller(tiers, &self.controller, out)?;
+        show_list(alloc, schema, tiers, self.ties(), out)?;
+        show_controller(tiers, self.controller(), out)?;
         show_associations(alloc, schema, tiers, self, out)
     }
 }

@@ -6,7 +6,7 @@ ghost use Rattle.un_isolate.specs.Isolation.{isolates};
 ghost use Rattle.un_isolate.specs.Entries.{isolates_by, controls_by, has_controller};
 
 use un_conds::{Cond, holds};
-use un_defs::Spot;
+use un_defs::PackedSpot;
 use un_schema::Class;
 use un_walk::Seen;
 
@@ -17,21 +17,21 @@ fn is_device(class: Class) -> bool
 }
 
 /// The entry is that of a device that meets the condition.
-fn isolates(isolators: &Option<Cond>, spot: &Spot) -> bool
+fn isolates(isolators: &Option<Cond>, spot: &PackedSpot) -> bool
     ensures { result ≡ isolates isolators.now spot.now }
 {
     match isolators {
         Some(condition) => {
-            is_device(spot.class) && holds(condition, spot.attrs.pairs(), spot.cats.0)
+            is_device(spot.class()) && holds(condition, spot.attrs(), spot.cats().0)
         }
         None => false,
     }
 }
 
-fn has_controller(tier: u8, spot: &Spot) -> bool
+fn has_controller(tier: u8, spot: &PackedSpot) -> bool
     ensures { result ≡ has_controller tier spot.now }
 {
-    match &spot.controller {
+    match spot.controller() {
         Some(controller) => controller.tier == tier,
         None => false,
     }

@@ -71,7 +71,7 @@ fn ends_of(
     let Some(spot) = one.spot else {
         return Ok(ends);
     };
-    for tie in spot.ties.as_slice() {
+    for tie in spot.ties() {
         if let Some(end) = end_of(nodes, barriers.tier, one, tie) {
             ends.push(end)?;
         }

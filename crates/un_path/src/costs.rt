@@ -5,8 +5,7 @@ ghost use Rattle.un_path.specs.Costs.{is_segment, cost_of_value, segment_cost};
 ghost use Rattle.un_path.specs.Hops.{cost_by};
 
 use un_ask::Weight;
-use un_attrs::Attrs;
-use un_defs::{LinkName, PackedTie, Spot};
+use un_defs::{LinkName, PackedSpot, PackedTie};
 
 fn is_segment(name: LinkName) -> bool
     ensures { result ≡ is_segment name }
@@ -20,13 +19,13 @@ fn cost_of_value(value: i64) -> u64
     if value < 0 { 0 } else { value as u64 }
 }
 
-/// What a segment costs, given the attributes of the node that it is left from.
-fn segment_cost(weight: Weight, attrs: &Attrs) -> u64
-    ensures { result ≡ segment_cost weight attrs.now }
+/// What a segment costs, given the entry of the node that it is left from.
+fn segment_cost(weight: Weight, spot: &PackedSpot) -> u64
+    ensures { result ≡ segment_cost weight spot.now.attrs }
 {
     match weight {
         Weight::Steps => 1,
-        Weight::Attribute(number) => match attrs.get(number) {
+        Weight::Attribute(number) => match spot.attribute(number) {
             Some(value) => cost_of_value(value),
             None => 0,
         },
@@ -35,11 +34,11 @@ fn segment_cost(weight: Weight, attrs: &Attrs) -> u64
 }
 
 /// What a link costs, given the entry of the node that it is left from.
-pub(crate) fn link_cost(weight: Weight, spot: &Spot, tie: &PackedTie) -> u64
+pub(crate) fn link_cost(weight: Weight, spot: &PackedSpot, tie: &PackedTie) -> u64
     ensures { result ≡ cost_by weight spot.now tie.now }
 {
     if is_segment(tie.name()) {
-        segment_cost(weight, &spot.attrs)
+        segment_cost(weight, spot)
     } else {
         0
     }

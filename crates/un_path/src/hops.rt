@@ -9,7 +9,7 @@ ghost use Rattle.un_path.specs.Hops.{IsAt, AreHopsBy, AreReached, AreHops};
 use crate::costs::link_cost;
 use std::alloc::{AllocError, Global};
 use un_ask::Weight;
-use un_defs::{Barriers, Ground, Node, Spot};
+use un_defs::{Barriers, Ground, Node, PackedSpot};
 use un_walk::Seen;
 
 /// A step by one link: the place that it leads to, and what the link costs.
@@ -42,13 +42,13 @@ fn hops_by(
     alloc: Global,
     nodes: &[Node],
     weight: Weight,
-    spot: &Spot,
+    spot: &PackedSpot,
 ) -> Result<Vec<Hop>, AllocError>
     requires { IsStrictlySortedBy node_cmp nodes.now }
     ensures { IfOk result (λ hops. AreHopsBy weight nodes.now spot.now spot.now.ties hops.items) }
 {
     let mut hops = Vec::new(alloc);
-    for tie in spot.ties.as_slice() {
+    for tie in spot.ties() {
         if let Some(to) = place_of(nodes, tie.to()) {
             hops.push(Hop {
                 to,

@@ -12,7 +12,7 @@ use crate::meet::Meeting;
 use crate::permit::permitted;
 use std::alloc::{AllocError, Global};
 use un_defs::order::rising;
-use un_defs::{Assoc, AssocKind, Controller, Ids, Node, Port, Row, Rows, Spot};
+use un_defs::{Assoc, AssocKind, Controller, Ids, Node, PackedSpot, Port, Row, Rows, Spot};
 
 /// Of a row's associations the permitted ones by which it contains or is contained.
 fn containments<R: Rows>(
@@ -135,7 +135,7 @@ fn spot<R: Rows>(
     meeting: &Meeting,
     port: Port,
     row: &Row,
-) -> Result<Spot, AllocError>
+) -> Result<PackedSpot, AllocError>
     requires meeting { IsMeeting (R.catalog rows.now) (R.features rows.now) meeting.now }
     requires row { row_of (R.features rows.now) port.feature ≡ Some row.now }
     ensures { IfOk result (λ spot. spot
@@ -151,7 +151,7 @@ fn spot<R: Rows>(
     let contained = containments(alloc, rows, assocs.as_slice())?;
     let contents = contents(alloc, contained.as_slice(), row.id)?;
     let structures = structures(alloc, rows, assocs.as_slice(), row.id)?;
-    Ok(Spot {
+    let spot = Spot {
         port,
         kind: row.kind,
         class: row.class,
@@ -162,7 +162,9 @@ fn spot<R: Rows>(
         container: container(contained.as_slice(), row.id),
         contents,
         structures,
-    })
+    };
+    let packed = PackedSpot::new(alloc, spot)?;
+    Ok(packed)
 }
 
 /// The entries of the ports at a point, in their order.
@@ -170,7 +172,7 @@ pub(crate) fn spots_here<R: Rows>(
     alloc: Global,
     rows: &R,
     meeting: &Meeting,
-) -> Result<Vec<Spot>, AllocError>
+) -> Result<Vec<PackedSpot>, AllocError>
     requires { IsMeeting (R.catalog rows.now) (R.features rows.now) meeting.now }
     ensures { IfOk result (λ spots. spots.items
         ≡ spots_here (R.catalog rows.now) (R.features rows.now) meeting.now.at) }

@@ -82,7 +82,7 @@ fn add_controllers<'a>(
         return Ok(());
     };
     for spot in star.spots.as_slice() {
-        if let Some(controller) = &spot.controller {
+        if let Some(controller) = spot.controller() {
             controllers.push(controller)?;
         }
     }

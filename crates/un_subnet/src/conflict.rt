@@ -20,7 +20,7 @@ fn is_foreign(tier: u8, subnet: &Name, controller: &Controller) -> bool
 fn controller_of<G: Ground>(over: &G, node: Node) -> Option<&Controller>
     ensures { option_copied result ≡ controller_of (G.stars_and_areas over.now) node }
 {
-    over.star(node.at)?.entry(node.port)?.controller.as_ref()
+    over.star(node.at)?.entry(node.port)?.controller()
 }
 
 /// The refusal for the controller of a port, if it is of another subnetwork.

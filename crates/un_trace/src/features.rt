@@ -14,14 +14,14 @@ ghost use Rattle.un_trace.specs.TraceReply.{parts};
 use smallvec::SmallVec;
 use std::alloc::{AllocError, Global};
 use un_ask::{Numbers, Part};
-use un_defs::Spot;
+use un_defs::PackedSpot;
 use un_walk::Seen;
 
 /// The features of a result, rising, and the first entry of each feature that has one.
 #[derive(Drop)]
 pub(crate) struct Features<'a> {
     pub(crate) parts: Vec<Part>,
-    pub(crate) firsts: Vec<&'a Spot>,
+    pub(crate) firsts: Vec<&'a PackedSpot>,
 }
 
 impl<'a> Features<'a> {
@@ -62,7 +62,7 @@ fn numbers_of(alloc: Global, run: &[Seen]) -> Result<Numbers, AllocError>
 }
 
 /// The first entry of some nodes.
-fn first_entry<'a>(run: &[Seen<'a>]) -> Option<&'a Spot>
+fn first_entry<'a>(run: &[Seen<'a>]) -> Option<&'a PackedSpot>
     ensures { option_copied result ≡ slice_get (spots_of run.now) 0 }
 {
     for one in run {

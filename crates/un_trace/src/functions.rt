@@ -9,7 +9,7 @@ ghost use Rattle.un_trace.specs.Functions.{values_of, total_of};
 
 use std::alloc::{AllocError, Global};
 use un_ask::{Func, Totals};
-use un_defs::Spot;
+use un_defs::PackedSpot;
 
 fn push_value(values: &mut Vec<i64>, value: Option<i64>) -> Result<(), AllocError>
     ensures { OnOk result (values.new.items ≡ values.old.items ++ cons_option value []) }
@@ -21,7 +21,11 @@ fn push_value(values: &mut Vec<i64>, value: Option<i64>) -> Result<(), AllocErro
 }
 
 /// The values of an attribute over the entries that have it. An unknown attribute has none.
-fn values_of(alloc: Global, spots: &[&Spot], attribute: Option<u8>) -> Result<Vec<i64>, AllocError>
+fn values_of(
+    alloc: Global,
+    spots: &[&PackedSpot],
+    attribute: Option<u8>,
+) -> Result<Vec<i64>, AllocError>
     ensures { IfOk result (λ values. values.items ≡ values_of (map deref spots.now) attribute) }
 {
     let mut values = Vec::new(alloc);
@@ -29,7 +33,7 @@ fn values_of(alloc: Global, spots: &[&Spot], attribute: Option<u8>) -> Result<Ve
         return Ok(values);
     };
     for spot in spots {
-        push_value(&mut values, spot.attrs.get(attribute))?;
+        push_value(&mut values, spot.attribute(attribute))?;
     }
     Ok(values)
 }
@@ -82,7 +86,7 @@ fn greatest(values: &[i64]) -> Option<i64>
 /// A function, given the first entries of the features and how many features there are.
 fn total(
     alloc: Global,
-    spots: &[&Spot],
+    spots: &[&PackedSpot],
     count: usize,
     function: Func,
 ) -> Result<Option<i128>, AllocError>
@@ -108,7 +112,7 @@ fn total(
 /// The values of the functions, in their order.
 pub(crate) fn totals(
     alloc: Global,
-    spots: &[&Spot],
+    spots: &[&PackedSpot],
     count: usize,
     functions: &[Func],
 ) -> Result<Totals, AllocError>

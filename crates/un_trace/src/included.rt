@@ -10,8 +10,7 @@ ghost use Rattle.un_trace.specs.Included.{ids_of};
 
 use std::alloc::{AllocError, Global};
 use std::collections::BTreeSet;
-use std::slice;
-use un_defs::{Ids, Spot};
+use un_defs::{Ids, PackedSpot};
 use un_walk::Seen;
 
 /// What a result tells of the entries of its nodes.
@@ -22,15 +21,14 @@ pub(crate) enum Inclusion {
     Structures,
 }
 
-/// The ids that an entry gives. A feature without a container has 0 there, which is no id.
-fn ids_of(inclusion: Inclusion, spot: &Spot) -> &[u64]
+/// The ids that an entry gives.
+fn ids_of(inclusion: Inclusion, spot: &PackedSpot) -> &[u64]
     ensures { result.now ≡ ids_of inclusion spot.now }
 {
     match inclusion {
-        Inclusion::Containers if spot.container == 0 => &[],
-        Inclusion::Containers => slice::from_ref(&spot.container),
-        Inclusion::Content => spot.contents.as_slice(),
-        Inclusion::Structures => spot.structures.as_slice(),
+        Inclusion::Containers => spot.containers(),
+        Inclusion::Content => spot.contents(),
+        Inclusion::Structures => spot.structures(),
     }
 }
 

@@ -10,7 +10,7 @@ pub(crate) fn is_controlled(star: &Star, port: Port, tier: u8) -> bool
     ensures { result ≡ controlled_in star.now port tier }
 {
     match star.entry(port) {
-        Some(spot) => match &spot.controller {
+        Some(spot) => match spot.controller() {
             Some(controller) => controller.tier == tier,
             None => false,
         },

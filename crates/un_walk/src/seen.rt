@@ -5,13 +5,13 @@ ghost use Rattle.std.specs.List.Sorted.{IsPermutation, IsSorted};
 ghost use Rattle.un_defs.specs.Orders.{node_cmp};
 ghost use Rattle.un_walk.specs.Seen.{nodes_of, is_barrier_by};
 
-use un_defs::{Barriers, Node, Spot};
+use un_defs::{Barriers, Node, PackedSpot};
 
 /// A node and its entry, if it has one.
 #[derive(Clone, Copy)]
 pub struct Seen<'a> {
     pub node: Node,
-    pub spot: Option<&'a Spot>,
+    pub spot: Option<&'a PackedSpot>,
 }
 
 impl Seen<'_> {

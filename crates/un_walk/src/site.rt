@@ -7,7 +7,7 @@ ghost use Rattle.un_defs.specs.Orders.{same_port};
 ghost use Rattle.un_walk.specs.Site.{star_of, ties_away, IsSite};
 
 use crate::traversal::is_same_point;
-use un_defs::{Ground, Port, Spot, Star};
+use un_defs::{Ground, PackedSpot, Port, Star};
 use un_geom::Point;
 use un_steps::Steps;
 
@@ -55,11 +55,11 @@ impl<'a> Site<'a> {
             .spots
             .as_slice()
             .iter()
-            .position(|spot| spot.port == port)
+            .position(|spot| spot.port() == port)
     }
 
     /// The entry at a place of the star.
-    pub(crate) fn spot_at(&self, place: usize) -> Option<&'a Spot>
+    pub(crate) fn spot_at(&self, place: usize) -> Option<&'a PackedSpot>
         ensures { option_copied result ≡ slice_get (star_of self.now).spots place }
     {
         self.star?.spots.as_slice().get(place)
@@ -67,11 +67,10 @@ impl<'a> Site<'a> {
 }
 
 // How many links lead from the entry to other points than this one.
-fn ties_away(spot: &Spot, at: Point) -> usize
+fn ties_away(spot: &PackedSpot, at: Point) -> usize
     ensures { result ≡ ties_away at spot.now }
 {
-    spot.ties
-        .as_slice()
+    spot.ties()
         .iter()
         .filter(|tie| !is_same_point(tie.to().at, at))
         .count()

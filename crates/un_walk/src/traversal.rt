@@ -13,7 +13,7 @@ ghost use Rattle.un_walk.specs.Traced.{Traces, AreDoneBefore};
 use crate::entries::is_controlled;
 use crate::found::Found;
 use std::alloc::{AllocError, Global};
-use un_defs::{Barriers, Ground, LinkName, Mode, Node, PackedTie, Spot, Star};
+use un_defs::{Barriers, Ground, LinkName, Mode, Node, PackedSpot, PackedTie, Star};
 use un_geom::Point;
 use un_steps::Steps;
 
@@ -23,7 +23,7 @@ pub(crate) struct Place<'a> {
     pub(crate) node: Node,
     pub(crate) number: usize,
     pub(crate) star: &'a Star,
-    pub(crate) spot: &'a Spot,
+    pub(crate) spot: &'a PackedSpot,
 }
 
 fn mode_takes(mode: Mode, tie: &PackedTie) -> bool
@@ -139,7 +139,7 @@ pub(crate) fn follow<'a, G: Ground, L>(
         → OnOk result (steps.new + length (nodes found.old) ≤ steps.old + length (nodes found.new)) }
     ensures never_falls { steps.old ≤ steps.new }
 {
-    for tie in place.spot.ties.as_slice() {
+    for tie in place.spot.ties() {
         if goes_by(over, place, tie, mode, barriers, steps) {
             found.add(alloc, over, tie.to(), place.number, Some(tie), steps)?;
         }

@@ -19,7 +19,7 @@ use crate::site::Site;
 use crate::traversal::{Place, follow};
 use std::alloc::{AllocError, Global};
 use un_defs::port::Nodes;
-use un_defs::{Barriers, Dirt, Ground, Mode, Node, Spot};
+use un_defs::{Barriers, Dirt, Ground, Mode, Node, PackedSpot};
 use un_steps::Steps;
 
 /// The nodes that walks reach, rising, and the dirt that they meet.
@@ -75,7 +75,7 @@ fn is_shut_by_dirt(barriers: &Barriers, dirty_here: bool) -> bool
     barriers.consistent && dirty_here
 }
 
-fn is_shut_by_barrier(barriers: &Barriers, spot: &Spot) -> bool
+fn is_shut_by_barrier(barriers: &Barriers, spot: &PackedSpot) -> bool
     ensures { result ≡ meets_condition barriers.now spot.now }
 {
     barriers.are_met_by(spot)

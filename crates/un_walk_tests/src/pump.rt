@@ -12,7 +12,7 @@ use std::cell::Cell;
 use un_attrs::{Attrs, Cats};
 use un_defs::link::{TieList, Ties};
 use un_defs::star::{Spots, TopoErrors};
-use un_defs::{Ground, Ids, LinkName, Node, PackedTie, Port, Spot, Star, Tie};
+use un_defs::{Ground, Ids, LinkName, Node, PackedSpot, PackedTie, Port, Spot, Star, Tie};
 use un_geom::Point;
 use un_schema::Class;
 
@@ -139,12 +139,12 @@ const FROM_MAIN: Tie = Tie {
     back: true,
 };
 
-fn spot(alloc: Global, node: Node, ties: &[Tie]) -> Result<Spot, AllocError> {
+fn spot(alloc: Global, node: Node, ties: &[Tie]) -> Result<PackedSpot, AllocError> {
     let Ok(attrs) = Attrs::new(&[]) else {
         return Err(AllocError);
     };
     let packed = ties.iter().map(|tie| PackedTie::new(*tie)).collect(alloc)?;
-    Ok(Spot {
+    let spot = Spot {
         port: node.port,
         ties: Ties::new(TieList::from_vec(packed)),
         kind: 0,
@@ -155,10 +155,11 @@ fn spot(alloc: Global, node: Node, ties: &[Tie]) -> Result<Spot, AllocError> {
         contents: Ids::new(Vec::new(alloc)),
         structures: Ids::new(Vec::new(alloc)),
         attrs,
-    })
+    };
+    PackedSpot::new(alloc, spot)
 }
 
-fn star(alloc: Global, spots: Vec<Spot>) -> Star {
+fn star(alloc: Global, spots: Vec<PackedSpot>) -> Star {
     Star {
         spots: Spots::new(spots),
         errors: TopoErrors::new(Vec::new(alloc)),

@@ -12,7 +12,7 @@ use std::alloc::{AllocError, Global};
 use un_attrs::Attrs;
 use un_defs::link::{TieList, Ties};
 use un_defs::star::Spots;
-use un_defs::{Controller, Ids, Port, Spot};
+use un_defs::{Controller, Ids, PackedSpot, Port, Spot};
 use un_json::form::Form;
 use un_json::list::read_list;
 use un_json::scalar::{Id, Named};
@@ -257,7 +257,7 @@ fn entry_from(
     schema: &Schema,
     tiers: &Tiers,
     value: &Value,
-) -> Result<Option<Spot>, AllocError>
+) -> Result<Option<PackedSpot>, AllocError>
     ensures { IfOk result (λ spot. spot ≡ entry_from schema.now tiers.now (view value.now)) }
 {
     let Some(head) = read_head(schema, value) else {
@@ -273,7 +273,11 @@ fn entry_from(
         return Ok(None);
     };
     match read_tail(alloc, value)? {
-        Some(tail) => Ok(Some(spot(schema, head, attrs, ties, controller, tail))),
+        Some(tail) => {
+            let spot = spot(schema, head, attrs, ties, controller, tail);
+            let packed = PackedSpot::new(alloc, spot)?;
+            Ok(Some(packed))
+        }
         None => Ok(None),
     }
 }
@@ -283,7 +287,7 @@ fn read_entry(
     schema: &Schema,
     tiers: &Tiers,
     value: &Value,
-) -> Result<Option<Spot>, AllocError>
+) -> Result<Option<PackedSpot>, AllocError>
     ensures { IfOk result (λ spot. spot ≡ entry_of schema.now tiers.now (view value.now)) }
 {
     if !has_length(9, value) {
@@ -299,7 +303,7 @@ fn read_entries(
     schema: &Schema,
     tiers: &Tiers,
     values: &[Value],
-) -> Result<Option<Vec<Spot>>, AllocError>
+) -> Result<Option<Vec<PackedSpot>>, AllocError>
     ensures { IfOk result (λ items. option_map (λ v. v.items) items
         ≡ each_item (entry_of schema.now tiers.now) (items_view values.now)) }
 {

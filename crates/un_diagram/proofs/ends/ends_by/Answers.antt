@@ -12,7 +12,7 @@ use Rattle.un_diagram.proofs.ends.ends_by.Goals.{in-Some+in_ok-push, in_default}
 pub loop-tie-preserved : goal.loop-tie-preserved
 loop-tie-preserved c =
     let nodes = c.args.nodes.now in
-    let ties : List Tie = c.as_slice-tie-items.result.now in
+    let ties : List Tie = c.ties-tie-items.result.now in
     let k = c.loop-tie.tie-index in
     let tie : Tie = c.tie-item.result in
     let more : take k ties ++ tie ∷ [] ≡ take (k + 1) ties = ap (λ t. take k ties ++ t ∷ []) c.tie-item.is ∙ sym (take_more ties k tie c.loop-tie-test.true) in
@@ -30,6 +30,6 @@ loop-tie-preserved c =
 
 pub returns : goal.returns
 returns c =
-    let ties : List Tie = c.as_slice-tie-items.result.now in
+    let ties : List Tie = c.ties-tie-items.result.now in
     let all : take c.loop-tie.tie-index ties ≡ ties = take_all c.loop-tie.tie-index ties c.loop-tie-test.false in
-    subst (λ (l : List Tie). (j : ℕ) → Contains c.loop-tie.ends.items j ↔ IsEndBy c.args.nodes.now l j) (all ∙ c.as_slice-tie-items.ensures) c.loop-tie.invariant
+    subst (λ (l : List Tie). (j : ℕ) → Contains c.loop-tie.ends.items j ↔ IsEndBy c.args.nodes.now l j) (all ∙ c.ties-tie-items.ensures) c.loop-tie.invariant

@@ -13,7 +13,7 @@ loop-tie-preserved c =
     let nodes = c.args.nodes.now in
     let tier = c.args.barriers.now.tier in
     let v = c.args.one.now in
-    let ties : List Tie = c.as_slice-tie-items.result.now in
+    let ties : List Tie = c.ties-tie-items.result.now in
     let k = c.loop-tie.tie-index in
     let tie : Tie = c.tie-item.result in
     let more : take k ties ++ tie ∷ [] ≡ take (k + 1) ties = ap (λ t. take k ties ++ t ∷ []) c.tie-item.is ∙ sym (take_more ties k tie c.loop-tie-test.true) in
@@ -28,8 +28,8 @@ loop-tie-preserved c =
 
 pub returns : goal.returns
 returns c =
-    let ties : List Tie = c.as_slice-tie-items.result.now in
+    let ties : List Tie = c.ties-tie-items.result.now in
     let all : take c.loop-tie.tie-index ties ≡ ties = take_all c.loop-tie.tie-index ties c.loop-tie-test.false in
-    let is : ties ≡ ties_by c.args.one.now = c.as_slice-tie-items.ensures ∙ sym (ap (λ o. option_map_or (λ s. s.ties) (option_copied o) []) c.in-Some.is) in
+    let is : ties ≡ ties_by c.args.one.now = c.ties-tie-items.ensures ∙ sym (ap (λ o. option_map_or (λ s. s.ties) (option_copied o) []) c.in-Some.is) in
     ends_done c.args.nodes.now c.requires c.args.barriers.now c.args.one.now c.loop-tie.ends.items (sym c.is_barrier.ensures ∙ c.if-is_barrier.false)
     (subst (λ l. AreEndsOf c.args.nodes.now c.requires c.args.barriers.now.tier c.args.one.now l c.loop-tie.ends.items) (all ∙ is) c.loop-tie.invariant)

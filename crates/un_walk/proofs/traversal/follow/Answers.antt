@@ -1,4 +1,4 @@
-use Rattle.std.proofs.Common.{◌≡◌, ◌⊎◌, ℕ, suc, ◌+◌, ◌<◌, pos, ◌||◌, not, Bool, true, false, List, [], take, take_all, ◌∷◌, get_or, slice_get, Some, add-one, length, length-append, Contains, inl, inr, true≢false, refl, sym, ap, subst, ◌∙◌, rules, arith}
+use Rattle.std.proofs.Common.{◌≡◌, ◌⊎◌, ℕ, suc, ◌+◌, ◌<◌, ◌||◌, not, Bool, true, false, List, [], take, take_all, ◌∷◌, get_or, slice_get, Some, add-one, length, length-append, Contains, inl, inr, true≢false, refl, sym, ap, subst, ◌∙◌, rules, arith}
 use Rattle.std.specs.List.{list_any}
 use Rattle.std.specs.Option.{option_map_or}
 use Rattle.un_defs.specs.declared.port.Node.{Node}
@@ -51,10 +51,10 @@ pub loop-tie-init : goal.loop-tie-init
 loop-tie-init g c = record {
   items = search rules;
   over = c.requires.over;
-  grown = grows_none (nodes c.args.found.now) _ (λ m. none_any (goes_by (g.G.Ground.stars_and_areas c.args.over.now) c.args.barriers.now c.args.mode c.args.place.now.node m) c.as_slice-tie-items.result.now);
+  grown = grows_none (nodes c.args.found.now) _ (λ m. none_any (goes_by (g.G.Ground.stars_and_areas c.args.over.now) c.args.barriers.now c.args.mode c.args.place.now.node m) c.ties-tie-items.result.now);
   traces = traces_done (g.G.Ground.stars_and_areas c.args.over.now) c.args.barriers.now c.args.mode c.args.found.now c.args.place.now.number c.args.place.now.number
-      (AreDoneBefore c.args.place.now.number) (done_to c.args.place.now.number c.as_slice-tie-items.result.now 0) (omega arith) c.requires.traces
-      (λ p one other t is at opened stands goes. elim is [ inl low ↦ low | inr none ↦ absurd (none_taken c.as_slice-tie-items.result.now t (among_from_contains (take 0 c.as_slice-tie-items.result.now) t none.1)) ]);
+      (AreDoneBefore c.args.place.now.number) (done_to c.args.place.now.number c.ties-tie-items.result.now 0) (omega arith) c.requires.traces
+      (λ p one other t is at opened stands goes. elim is [ inl low ↦ low | inr none ↦ absurd (none_taken c.ties-tie-items.result.now t (among_from_contains (take 0 c.ties-tie-items.result.now) t none.1)) ]);
   rises = omega arith;
   counted = λ stay. omega arith;
 }
@@ -65,7 +65,7 @@ loop-tie-preserved g c =
     let B = c.args.barriers.now in
     let n = c.args.place.now.node in
     let mode = c.args.mode in
-    let items : List Tie = c.as_slice-tie-items.result.now in
+    let items : List Tie = c.ties-tie-items.result.now in
     let k = c.loop-tie.tie-index in
     let tie : Tie = c.tie-item.result in
     let stands : Contains items tie = subst (Contains items) (sym c.tie-item.is) (contains_at items k tie c.loop-tie-test.true) in
@@ -128,7 +128,7 @@ returns-clause-next g c =
     let G = g.G.Ground.stars_and_areas c.args.over.now in
     let B = c.args.barriers.now in
     let n = c.args.place.now.node in
-    let items : List Tie = c.as_slice-tie-items.result.now in
+    let items : List Tie = c.ties-tie-items.result.now in
     let of_node : ties G n ≡ items = ap (λ o. option_map_or (λ s. s.ties) o []) c.requires.entry ∙ sym c.loop-tie.invariant.items in
     let all : take c.loop-tie.tie-index items ≡ items = take_all c.loop-tie.tie-index items c.loop-tie-test.false in
     grows_same (nodes c.args.found.now) (nodes c.loop-tie.found) (λ m. list_any (goes_by G B c.args.mode n m) (take c.loop-tie.tie-index items)) (λ m. list_any (goes_by G B c.args.mode n m) (ties G n))
@@ -140,7 +140,7 @@ returns-clause-traces g c =
     let B = c.args.barriers.now in
     let n = c.args.place.now.node in
     let place = c.args.place.now.number in
-    let items : List Tie = c.as_slice-tie-items.result.now in
+    let items : List Tie = c.ties-tie-items.result.now in
     let of_node : ties G n ≡ items = ap (λ o. option_map_or (λ s. s.ties) o []) c.requires.entry ∙ sym c.loop-tie.invariant.items in
     let all : take c.loop-tie.tie-index items ≡ items = take_all c.loop-tie.tie-index items c.loop-tie-test.false in
     let here : slice_get (nodes c.loop-tie.found) place ≡ Some n =
