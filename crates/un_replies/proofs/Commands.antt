@@ -1,4 +1,4 @@
--- What holds of the replies of commands.
+-- What holds of the replies of commands, and of others.
 use Rattle.std.proofs.Common.{◌≡◌, ◌≢◌, ℕ, ◌≤◌, Bool, List, Option, refl, arith}
 use Rattle.un_geom.specs.declared.point.Point.{Point}
 use Rattle.un_geom.specs.Rectangle.{Rectangle}
@@ -18,7 +18,7 @@ use Rattle.un_ask.specs.declared.word.EditWord.{EditWord}
 use Rattle.un_ask.specs.declared.stored.StoredSubnet.{StoredSubnet}
 use Rattle.un_ask.specs.declared.reply.Reply.{Reply}
 use Rattle.un_ask.specs.declared.reply.Reply.TheVariants as reply
-use Rattle.un_replies.specs.Commands.{IsOfCommand, HasFewIds, command_room}
+use Rattle.un_replies.specs.Commands.{IsOfCommand, IsOfReach, HasFewIds, command_room}
 
 -- a reply that is none of these is not one of a command
 pub other_reply : (r : Reply) → IsOfCommand r
@@ -49,38 +49,57 @@ other_reply (reply.Diagram edges kept pieces version) command h0 h1 h2 h3 h4 h5 
 other_reply (reply.Refused refusal edit version) command h0 h1 h2 h3 h4 h5 = h5 refusal edit version refl
 
 -- a reply that is none of these is not one of a query
-pub other_query : (r : Reply) → ¬ IsOfCommand r
+pub other_query : (r : Reply) → ¬ IsOfCommand r → ¬ IsOfReach r
     → ((version : ℕ) → r ≢ reply.Version version)
     → ((feature : FeatureReply) (version : ℕ) → r ≢ reply.Feature feature version)
     → ((areas : List (ℕ × Rectangle)) (version : ℕ) → r ≢ reply.Dirty areas version)
     → ((errors : List (Point × TopoError)) (version : ℕ) → r ≢ reply.Errors errors version)
     → ((controllers : List Port) (members : List ℕ) (status : Status) (subnet : List ℕ) (tier : List ℕ) (updated : ℕ) (version : ℕ) → r ≢ reply.Subnet controllers members status subnet tier updated version)
-    → ((traced : ResultReply) (version : ℕ) → r ≢ reply.Traced traced version)
     → ((controllers : List Controller) (version : ℕ) → r ≢ reply.Controllers controllers version)
-    → ((segments : List Segment) (version : ℕ) → r ≢ reply.Loops segments version)
-    → ((borders : List Port) (features : List Part) (version : ℕ) → r ≢ reply.Isolation borders features version)
     → ((cost : Option ℕ) (labels : List Label) (nodes : List Port) (version : ℕ) → r ≢ reply.Path cost labels nodes version)
     → ((valid : Bool) (version : ℕ) → r ≢ reply.Check valid version)
     → ((edges : List Edge) (kept : List Port) (pieces : List Piece) (version : ℕ) → r ≢ reply.Diagram edges kept pieces version)
     → ⊥
-other_query (reply.Edited areas id word version) query h0 h1 h2 h3 h4 h5 h6 h7 h8 h9 h10 h11 = absurd (query tt)
-other_query (reply.Batch areas ids version) query h0 h1 h2 h3 h4 h5 h6 h7 h8 h9 h10 h11 = absurd (query tt)
-other_query (reply.Ruled areas rules version) query h0 h1 h2 h3 h4 h5 h6 h7 h8 h9 h10 h11 = absurd (query tt)
-other_query (reply.Validated cleared errors version) query h0 h1 h2 h3 h4 h5 h6 h7 h8 h9 h10 h11 = absurd (query tt)
-other_query (reply.Updated row version) query h0 h1 h2 h3 h4 h5 h6 h7 h8 h9 h10 h11 = absurd (query tt)
-other_query (reply.Version version) query h0 h1 h2 h3 h4 h5 h6 h7 h8 h9 h10 h11 = h0 version refl
-other_query (reply.Feature feature version) query h0 h1 h2 h3 h4 h5 h6 h7 h8 h9 h10 h11 = h1 feature version refl
-other_query (reply.Dirty areas version) query h0 h1 h2 h3 h4 h5 h6 h7 h8 h9 h10 h11 = h2 areas version refl
-other_query (reply.Errors errors version) query h0 h1 h2 h3 h4 h5 h6 h7 h8 h9 h10 h11 = h3 errors version refl
-other_query (reply.Subnet controllers members status subnet tier updated version) query h0 h1 h2 h3 h4 h5 h6 h7 h8 h9 h10 h11 = h4 controllers members status subnet tier updated version refl
-other_query (reply.Traced traced version) query h0 h1 h2 h3 h4 h5 h6 h7 h8 h9 h10 h11 = h5 traced version refl
-other_query (reply.Controllers controllers version) query h0 h1 h2 h3 h4 h5 h6 h7 h8 h9 h10 h11 = h6 controllers version refl
-other_query (reply.Loops segments version) query h0 h1 h2 h3 h4 h5 h6 h7 h8 h9 h10 h11 = h7 segments version refl
-other_query (reply.Isolation borders features version) query h0 h1 h2 h3 h4 h5 h6 h7 h8 h9 h10 h11 = h8 borders features version refl
-other_query (reply.Path cost labels nodes version) query h0 h1 h2 h3 h4 h5 h6 h7 h8 h9 h10 h11 = h9 cost labels nodes version refl
-other_query (reply.Check valid version) query h0 h1 h2 h3 h4 h5 h6 h7 h8 h9 h10 h11 = h10 valid version refl
-other_query (reply.Diagram edges kept pieces version) query h0 h1 h2 h3 h4 h5 h6 h7 h8 h9 h10 h11 = h11 edges kept pieces version refl
-other_query (reply.Refused refusal edit version) query h0 h1 h2 h3 h4 h5 h6 h7 h8 h9 h10 h11 = absurd (query tt)
+other_query (reply.Edited areas id word version) query short h0 h1 h2 h3 h4 h5 h6 h7 h8 = absurd (query tt)
+other_query (reply.Batch areas ids version) query short h0 h1 h2 h3 h4 h5 h6 h7 h8 = absurd (query tt)
+other_query (reply.Ruled areas rules version) query short h0 h1 h2 h3 h4 h5 h6 h7 h8 = absurd (query tt)
+other_query (reply.Validated cleared errors version) query short h0 h1 h2 h3 h4 h5 h6 h7 h8 = absurd (query tt)
+other_query (reply.Updated row version) query short h0 h1 h2 h3 h4 h5 h6 h7 h8 = absurd (query tt)
+other_query (reply.Version version) query short h0 h1 h2 h3 h4 h5 h6 h7 h8 = h0 version refl
+other_query (reply.Feature feature version) query short h0 h1 h2 h3 h4 h5 h6 h7 h8 = h1 feature version refl
+other_query (reply.Dirty areas version) query short h0 h1 h2 h3 h4 h5 h6 h7 h8 = h2 areas version refl
+other_query (reply.Errors errors version) query short h0 h1 h2 h3 h4 h5 h6 h7 h8 = h3 errors version refl
+other_query (reply.Subnet controllers members status subnet tier updated version) query short h0 h1 h2 h3 h4 h5 h6 h7 h8 = h4 controllers members status subnet tier updated version refl
+other_query (reply.Traced traced version) query short h0 h1 h2 h3 h4 h5 h6 h7 h8 = absurd (short tt)
+other_query (reply.Controllers controllers version) query short h0 h1 h2 h3 h4 h5 h6 h7 h8 = h5 controllers version refl
+other_query (reply.Loops segments version) query short h0 h1 h2 h3 h4 h5 h6 h7 h8 = absurd (short tt)
+other_query (reply.Isolation borders features version) query short h0 h1 h2 h3 h4 h5 h6 h7 h8 = absurd (short tt)
+other_query (reply.Path cost labels nodes version) query short h0 h1 h2 h3 h4 h5 h6 h7 h8 = h6 cost labels nodes version refl
+other_query (reply.Check valid version) query short h0 h1 h2 h3 h4 h5 h6 h7 h8 = h7 valid version refl
+other_query (reply.Diagram edges kept pieces version) query short h0 h1 h2 h3 h4 h5 h6 h7 h8 = h8 edges kept pieces version refl
+other_query (reply.Refused refusal edit version) query short h0 h1 h2 h3 h4 h5 h6 h7 h8 = absurd (query tt)
+
+-- one that is none of these tells no whole network
+pub other_reach : (r : Reply) → ((traced : ResultReply) (version : ℕ) → r ≢ reply.Traced traced version) → ((segments : List Segment) (version : ℕ) → r ≢ reply.Loops segments version)
+    → ((borders : List Port) (features : List Part) (version : ℕ) → r ≢ reply.Isolation borders features version) → ¬ IsOfReach r
+other_reach (reply.Edited areas id word version) h0 h1 h2 reach = absurd reach
+other_reach (reply.Batch areas ids version) h0 h1 h2 reach = absurd reach
+other_reach (reply.Ruled areas rules version) h0 h1 h2 reach = absurd reach
+other_reach (reply.Validated cleared errors version) h0 h1 h2 reach = absurd reach
+other_reach (reply.Updated row version) h0 h1 h2 reach = absurd reach
+other_reach (reply.Version version) h0 h1 h2 reach = absurd reach
+other_reach (reply.Feature feature version) h0 h1 h2 reach = absurd reach
+other_reach (reply.Dirty areas version) h0 h1 h2 reach = absurd reach
+other_reach (reply.Errors errors version) h0 h1 h2 reach = absurd reach
+other_reach (reply.Subnet controllers members status subnet tier updated version) h0 h1 h2 reach = absurd reach
+other_reach (reply.Traced traced version) h0 h1 h2 reach = h0 traced version refl
+other_reach (reply.Controllers controllers version) h0 h1 h2 reach = absurd reach
+other_reach (reply.Loops segments version) h0 h1 h2 reach = h1 segments version refl
+other_reach (reply.Isolation borders features version) h0 h1 h2 reach = h2 borders features version refl
+other_reach (reply.Path cost labels nodes version) h0 h1 h2 reach = absurd reach
+other_reach (reply.Check valid version) h0 h1 h2 reach = absurd reach
+other_reach (reply.Diagram edges kept pieces version) h0 h1 h2 reach = absurd reach
+other_reach (reply.Refused refusal edit version) h0 h1 h2 reach = absurd reach
 
 -- 256 ids and what stands round them fit in the room of a command's reply
 pub few_fit : (r : Reply) → HasFewIds r → command_room r ≤ 5504

@@ -3,6 +3,7 @@ pub mod Plain
 pub mod Steps
 pub mod Groups
 pub mod CommandTexts
+pub mod ReachTexts
 pub mod Commands
 pub mod Shows
 mod Samples

@@ -1,8 +1,7 @@
 -- Values of replies that are written as tokens.
-use Rattle.std.proofs.Common.{◌≡◌, ◌≤◌, ◌<◌, ◌^◌, ℕ, ℤ, pos, negsuc, suc, List, [], ◌∷◌, ◌++◌, map, decimal, ap, sym, ◌∙◌, append_assoc, arith}
+use Rattle.std.proofs.Common.{◌≡◌, ◌<◌, ◌^◌, ℕ, ℤ, List, [], ◌∷◌, ◌++◌, map, decimal, ap, sym, ◌∙◌, append_assoc, arith}
 use Rattle.std.specs.Fmt.{signed_decimal}
 use Rattle.std.specs.List.Sorted.{IsStrictlySortedBy}
-use lib.Signed.{mag}
 use Rattle.json.specs.Token.{Token}
 use Rattle.json.specs.Tree.{json_tokens, items_tokens, members_tokens}
 use Rattle.json.specs.Print.{IsNumber}
@@ -10,7 +9,7 @@ use Rattle.serde_json.specs.Written.{compact_text, outline, items_outline, membe
 use Rattle.un_defs.specs.NamedAttributes.{IsNamedAttrs}
 use Rattle.un_geom.specs.Rectangle.{Rectangle}
 use Rattle.un_values.specs.Values.{whole, items_of, object_of, members_of, attribute}
-use Rattle.un_values.proofs.Digits.{number_decimal, number_negative}
+use Rattle.un_values.proofs.Digits.{number_decimal}
 use Rattle.un_values.proofs.Shows.{whole_text, in_order_rising}
 use Rattle.un_replies.specs.Replies.{area}
 
@@ -18,11 +17,7 @@ use Rattle.un_replies.specs.Replies.{area}
 pub whole_printed : (z : ℤ) → signed_decimal z ≡ compact_text (whole z)
 whole_printed z = sym (whole_text z)
 
--- ---- the digits of a whole number of 128 bits are a number of JSON
-
-pub number_of_whole : (z : ℤ) → mag z ≤ 2 ^ 127 → IsNumber (signed_decimal z)
-number_of_whole (pos n) h = number_decimal n (omega arith)
-number_of_whole (negsuc n) h = number_negative (suc n) (omega arith)
+-- ---- the digits of a number of 128 bits are a number of JSON
 
 pub number_of_count : (n : ℕ) → n < 2 ^ 128 → IsNumber (decimal n)
 number_of_count n h = number_decimal n (omega arith)

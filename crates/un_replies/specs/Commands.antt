@@ -1,4 +1,4 @@
--- What is known of a command's reply, so that it fits in the room that is kept for it.
+-- What is known of a command's reply, so that it fits in the room that is kept for it; and which replies to queries may be long.
 pub use Rattle.un_ask.specs.Replies.{IsOfCommand, HasFewIds}
 use Rattle.std.specs.Prelude.{ℕ, ◌+◌, ◌*◌, length, ⊤}
 use Rattle.un_schema.specs.Names.{IsName}
@@ -23,3 +23,10 @@ HasRefusalName other = ⊤
 abbrev pub command_room : Reply → ℕ
 command_room (reply.Batch areas ids version) = 21 * length ids + 128
 command_room other = 512
+
+-- whether a reply may tell a whole network
+abbrev pub IsOfReach : Reply → Type 0
+IsOfReach (reply.Traced result version) = ⊤
+IsOfReach (reply.Loops segments version) = ⊤
+IsOfReach (reply.Isolation borders features version) = ⊤
+IsOfReach other = ⊥

@@ -1,6 +1,6 @@
 //! Replies as the compact text of their values.
 ghost use Rattle.std.specs.Prelude.{◌≡◌, ◌+◌, ◌<◌, ◌≤◌, ◌++◌, IfOk, OnOk, OnErr, IsTrue, ◌↔◌, vec_len, vec_capacity};
-ghost use Rattle.un_replies.specs.Commands.{IsOfCommand, HasRefusalName, command_room};
+ghost use Rattle.un_replies.specs.Commands.{IsOfCommand, IsOfReach, HasRefusalName, command_room};
 ghost use Rattle.un_replies.specs.Replies.{print, past_around};
 
 use crate::command::put_command;
@@ -8,6 +8,7 @@ use crate::member::follow_count;
 use crate::names::names;
 use crate::put::put;
 use crate::query::show_query;
+use crate::reach::{add_isolation, add_loops, add_result};
 use json::Writer;
 use std::alloc::{AllocError, Global};
 use un_ask::Reply;
@@ -57,15 +58,39 @@ fn add_command(reply: &Reply, out: &mut Vec<u8>) -> Result<(), AllocError>
     Ok(())
 }
 
-// The text of a query's reply.
+// The text of a reply that is written as tokens.
 #[tactic(auto, using(un_values::proofs::Shows::text_of))]
-fn query_text(alloc: Global, reply: &Reply) -> Result<Vec<u8>, AllocError>
-    requires { ¬ IsOfCommand reply.now }
+fn written_text(alloc: Global, reply: &Reply) -> Result<Vec<u8>, AllocError>
+    requires query { ¬ IsOfCommand reply.now }
+    requires short { ¬ IsOfReach reply.now }
     ensures { IfOk result (λ text. text.items ≡ print reply.now) }
 {
     let mut writer = Writer::new(Vec::new(alloc));
     show_query(reply, &mut writer)?;
     Ok(writer.into_inner())
+}
+
+// The text of a query's reply.
+#[tactic(auto, using(crate::proofs::Commands::other_reach))]
+fn query_text(alloc: Global, reply: &Reply) -> Result<Vec<u8>, AllocError>
+    requires { ¬ IsOfCommand reply.now }
+    ensures { IfOk result (λ text. text.items ≡ print reply.now) }
+{
+    let mut text = Vec::new(alloc);
+    match reply {
+        Reply::Traced {
+            result: traced,
+            version,
+        } => add_result(traced, *version, &mut text)?,
+        Reply::Loops { segments, version } => add_loops(segments, *version, &mut text)?,
+        Reply::Isolation {
+            borders,
+            features,
+            version,
+        } => add_isolation(borders, features, *version, &mut text)?,
+        _ => return written_text(alloc, reply),
+    }
+    Ok(text)
 }
 
 // Appends the text of a query's reply.

@@ -4,16 +4,16 @@ ghost use Rattle.json.specs.Token.{begin_object, end_object, key, string, number
 ghost use Rattle.json.specs.Tree.{json_tokens};
 ghost use Rattle.serde_json.specs.Written.{outline};
 ghost use Rattle.un_ask.specs.declared.reply.Reply.TheVariants as reply;
-ghost use Rattle.un_replies.specs.Commands.{IsOfCommand};
-ghost use Rattle.un_replies.specs.Replies.{reply_value, result_value, status_text, port};
+ghost use Rattle.un_replies.specs.Commands.{IsOfCommand, IsOfReach};
+ghost use Rattle.un_replies.specs.Replies.{reply_value, status_text, port};
 ghost use Rattle.un_values.specs.Values.{counts, list};
 
 use crate::feature::show_feature;
 use crate::to_json::{ToJson, list_member};
 use json::Writer;
 use std::alloc::AllocError;
-use un_ask::results::{Controllers, Edges, Labels, Parts, Pieces, Segments};
-use un_ask::{Areas, PlacedErrors, Reply, ResultReply, Status};
+use un_ask::results::{Controllers, Edges, Labels, Pieces};
+use un_ask::{Areas, PlacedErrors, Reply, Status};
 use un_defs::Ids;
 use un_defs::port::Ports;
 use un_schema::Name;
@@ -63,22 +63,6 @@ fn status_text(status: Status) -> &'static str
     }
 }
 
-fn show_result(traced: &ResultReply, version: u64, out: &mut Writer) -> Result<(), AllocError>
-    ensures ok { OnOk result (out.new.tokens
-        ≡ out.old.tokens ++ json_tokens (outline (result_value traced.now version))) }
-    ensures before { out.new.before ≡ out.old.before }
-{
-    out.begin_object()?;
-    list_member("containers", traced.containers.as_slice(), out)?;
-    list_member("content", traced.content.as_slice(), out)?;
-    list_member("features", traced.features.as_slice(), out)?;
-    list_member("functions", traced.functions.as_slice(), out)?;
-    string_member("ok", traced.kind.text(), out)?;
-    list_member("structures", traced.structures.as_slice(), out)?;
-    count_member("version", version, out)?;
-    out.end_object()
-}
-
 fn show_controllers(
     controllers: &Controllers,
     version: u64,
@@ -92,36 +76,6 @@ fn show_controllers(
     out.begin_object()?;
     list_member("controllers", controllers.as_slice(), out)?;
     string_member("ok", "controllers", out)?;
-    count_member("version", version, out)?;
-    out.end_object()
-}
-
-fn show_loops(segments: &Segments, version: u64, out: &mut Writer) -> Result<(), AllocError>
-    ensures ok { OnOk result (out.new.tokens
-        ≡ out.old.tokens ++ json_tokens (outline (reply_value (reply.Loops segments.now version)))) }
-    ensures before { out.new.before ≡ out.old.before }
-{
-    out.begin_object()?;
-    string_member("ok", "loops", out)?;
-    list_member("segments", segments.as_slice(), out)?;
-    count_member("version", version, out)?;
-    out.end_object()
-}
-
-fn show_isolation(
-    borders: &Ports,
-    features: &Parts,
-    version: u64,
-    out: &mut Writer,
-) -> Result<(), AllocError>
-    ensures ok { OnOk result (out.new.tokens
-        ≡ out.old.tokens ++ json_tokens (outline (reply_value (reply.Isolation borders.now features.now version)))) }
-    ensures before { out.new.before ≡ out.old.before }
-{
-    out.begin_object()?;
-    list_member("borders", borders.as_slice(), out)?;
-    list_member("features", features.as_slice(), out)?;
-    string_member("ok", "isolation", out)?;
     count_member("version", version, out)?;
     out.end_object()
 }
@@ -216,10 +170,11 @@ fn show_stored(
     out.end_object()
 }
 
-/// Writes the reply to a query.
+/// Writes the reply to a query that tells no whole network.
 #[tactic(auto, using(crate::proofs::Commands::other_query))]
 pub(crate) fn show_query(reply: &Reply, out: &mut Writer) -> Result<(), AllocError>
-    requires { ¬ IsOfCommand reply.now }
+    requires query { ¬ IsOfCommand reply.now }
+    requires short { ¬ IsOfReach reply.now }
     ensures ok { OnOk result (out.new.tokens
         ≡ out.old.tokens ++ json_tokens (outline (reply_value reply.now))) }
     ensures before { out.new.before ≡ out.old.before }
@@ -241,20 +196,10 @@ pub(crate) fn show_query(reply: &Reply, out: &mut Writer) -> Result<(), AllocErr
             show_found(controllers, members, out)?;
             show_stored(*status, subnet, tier, *updated, *version, out)
         }
-        Reply::Traced {
-            result: traced,
-            version,
-        } => show_result(traced, *version, out),
         Reply::Controllers {
             controllers,
             version,
         } => show_controllers(controllers, *version, out),
-        Reply::Loops { segments, version } => show_loops(segments, *version, out),
-        Reply::Isolation {
-            borders,
-            features,
-            version,
-        } => show_isolation(borders, features, *version, out),
         Reply::Path {
             cost,
             labels,

@@ -9,7 +9,7 @@ ghost use Rattle.un_replies.specs.Replies.{error_text};
 use itoa::Buffer;
 use json::Writer;
 use std::alloc::AllocError;
-use un_ask::{Edge, Label, Part, Piece, Segment};
+use un_ask::{Edge, Label, Piece};
 use un_defs::{Controller, ErrorKind, Port, TopoError};
 use un_geom::{Point, Rect};
 
@@ -57,19 +57,6 @@ impl ToJson for Port {
         out.begin_array()?;
         out.u64(self.feature)?;
         out.u64(self.number as u64)?;
-        out.end_array()
-    }
-}
-
-impl ToJson for Segment {
-    ghost use Rattle.un_replies.specs.Replies.{segment};
-
-    ghost json_value = { segment };
-
-    fn show(&self, out: &mut Writer) -> Result<(), AllocError> {
-        out.begin_array()?;
-        out.u64(self.line)?;
-        out.u64(self.index as u64)?;
         out.end_array()
     }
 }
@@ -172,24 +159,6 @@ impl ToJson for (Point, TopoError) {
     }
 }
 
-// The value of a function.
-impl ToJson for Option<i128> {
-    ghost use Rattle.un_replies.specs.Replies.{total};
-
-    ghost json_value = { total };
-
-    #[tactic(auto, using(un_values::proofs::Shows::whole_tokens, crate::proofs::Shows::number_of_whole))]
-    fn show(&self, out: &mut Writer) -> Result<(), AllocError> {
-        match self {
-            Some(value) => {
-                let mut buffer = Buffer::new();
-                out.number(buffer.format(*value))
-            }
-            None => out.null(),
-        }
-    }
-}
-
 // What a walk costs.
 impl ToJson for u128 {
     ghost use Rattle.un_values.specs.Values.{count};
@@ -274,9 +243,9 @@ fn show_items<T: ToJson>(values: &[T], out: &mut Writer) -> Result<(), AllocErro
     Ok(())
 }
 
-/// Writes a list.
+// Writes a list.
 #[tactic(auto, using(un_values::proofs::Shows::list_steps))]
-pub(crate) fn show_list<T: ToJson>(values: &[T], out: &mut Writer) -> Result<(), AllocError>
+fn show_list<T: ToJson>(values: &[T], out: &mut Writer) -> Result<(), AllocError>
     ensures ok { OnOk result (out.new.tokens
         ≡ out.old.tokens ++ json_tokens (outline (list T.json_value values.now))) }
     ensures before { out.new.before ≡ out.old.before }
@@ -284,20 +253,6 @@ pub(crate) fn show_list<T: ToJson>(values: &[T], out: &mut Writer) -> Result<(),
     out.begin_array()?;
     show_items(values, out)?;
     out.end_array()
-}
-
-// A feature with the numbers of its reached ports.
-impl ToJson for Part {
-    ghost use Rattle.un_replies.specs.Replies.{part};
-
-    ghost json_value = { part };
-
-    fn show(&self, out: &mut Writer) -> Result<(), AllocError> {
-        out.begin_array()?;
-        out.u64(self.feature)?;
-        show_list(self.numbers.as_slice(), out)?;
-        out.end_array()
-    }
 }
 
 /// Writes a member that is a list.
