@@ -9,6 +9,11 @@ use Rattle.std.proofs.lemmas.Map.Keys.{IsDistinct-IsPermutation, IsDistinct-head
 use Rattle.std.specs.BTreeSet.{insert_key}
 use Rattle.un_defs.proofs.Members.{contains_from_among, among_from_contains}
 use Rattle.un_defs.proofs.Rising.{Among, among-rising, among_from-rising, sorted-rising, sorted_unique}
+use Rattle.std.proofs.lemmas.List.Sorted.{IsPermutation-map}
+use Rattle.un_walk.specs.declared.seen.Seen.{Seen}
+use Rattle.un_walk.specs.declared.found.Found.{Found}
+use Rattle.un_walk.specs.Found.{seens, nodes}
+use Rattle.un_walk.specs.Seen.{node_of, nodes_of}
 use Rattle.un_defs.specs.declared.port.Node.{Node}
 use Rattle.un_defs.specs.Orders.{same_node, node_cmp, rising}
 use Rattle.un_defs.proofs.OrderLaws.{node_total, node_ties}
@@ -90,3 +95,7 @@ count_in_order (n ∷ ns) d =
     length_inserted (rising node_cmp ns) n
     (λ m h e. true≢false (sym (node_itself n) ∙ ap (same_node n) (node_ties n m e) ∙ each_among (λ k. same_node n k ≡ false) ns m (IsDistinct-head same_node n ns d) (node_from_order ns m h)))
     ∙ ap suc (count_in_order ns (IsDistinct-tail same_node n ns d))
+
+-- the sorted nodes are those that were found, in order
+pub sorted_are : (f : Found) (seen : List Seen) → IsPermutation (seens f) seen → IsDistinct same_node (nodes f) → IsSorted node_cmp (nodes_of seen) → rising node_cmp (nodes f) ≡ nodes_of seen
+sorted_are f seen moved distinct sorted = in_order_is (nodes f) (nodes_of seen) distinct (IsPermutation-map node_of (seens f) seen moved) sorted

@@ -4,9 +4,9 @@ ghost use Rattle.std.specs.Prelude.{◌≡◌, ◌<◌, ◌≤◌, ◌+◌, ◌+
 ghost use Rattle.std.specs.Option.{option_copied};
 ghost use Rattle.un_defs.specs.Ground.{Ground, entry};
 ghost use Rattle.std.specs.List.Sorted.{IsPermutation, IsSorted};
-ghost use Rattle.un_defs.specs.Orders.{same_node, node_cmp};
+ghost use Rattle.un_defs.specs.Orders.{same_node, node_cmp, rising};
 ghost use Rattle.un_walk.specs.Growth.{has_node, with_node};
-ghost use Rattle.un_walk.specs.Seen.{spot_of, nodes_of};
+ghost use Rattle.un_walk.specs.Seen.{spot_of, nodes_of, HaveEntries};
 ghost use Rattle.un_walk.specs.Site.{IsSite};
 ghost use Rattle.un_walk.specs.Traced.{chords, IsOrigin, IsStart, chord_if, IsFoundFrom, AddsNode, AddsChord, AddsNothing, Adds};
 ghost use Rattle.un_walk.specs.Found.{seens, nodes, IsPlaceIn, IsNumberOf, IsWithoutNumber, IsUnmarked, IsInside, IsMarkedAt, WasMarkedAt, IsItemOver, IsFoundOver};
@@ -93,6 +93,7 @@ fn unmarked<'a, G: Ground, L>(
 }
 
 // Puts a mark at the entry of a star, unless it has one. The mark that was there, which is 0 for none.
+#[inline(always)]
 fn put_mark(visited: &mut [Visited], number: usize, place: usize, mark: usize) -> usize
     requires { IsInside visited.old number place }
     ensures new { result ≡ 0 → IsMarkedAt visited.old visited.new number place mark }
@@ -178,13 +179,23 @@ impl<'a> Found<'a> {
         self.chords.as_slice()
     }
 
-    /// The nodes with their entries, in order.
-    pub(crate) fn sorted(&self, alloc: Global) -> Result<Vec<Seen<'a>>, AllocError>
+    // The nodes with their entries, sorted.
+    fn in_order(&self, alloc: Global) -> Result<Vec<Seen<'a>>, AllocError>
         ensures permutation { IfOk result (λ seen. IsPermutation (seens self.now) seen.items) }
         ensures sorted { IfOk result (λ seen. IsSorted node_cmp (nodes_of seen.items)) }
     {
         let mut seen = nearly_sorted(alloc, self.items.as_slice())?;
         sort_by_node(&mut seen);
+        Ok(seen)
+    }
+
+    /// The nodes, rising, each with its entry. The ground is there for the contract alone.
+    pub fn sorted<G: Ground>(&self, alloc: Global, _over: &G) -> Result<Vec<Seen<'a>>, AllocError>
+        requires { IsFoundOver (G.stars_and_areas _over.now) self.now }
+        ensures nodes { IfOk result (λ seen. rising node_cmp (nodes self.now) ≡ nodes_of seen.items) }
+        ensures entries { IfOk result (λ seen. HaveEntries (G.stars_and_areas _over.now) seen.items) }
+    {
+        let seen = self.in_order(alloc)?;
         Ok(seen)
     }
 
@@ -196,6 +207,7 @@ impl<'a> Found<'a> {
     }
 
     // Whether the node at the place was found from this one, by a link. Nothing is looked up for that.
+    #[inline(always)]
     fn was_found_from(&self, place: usize, node: Node) -> bool
         requires { All (λ i. i.from < length self.now.items.items) self.now.items.items }
         ensures found { IsTrue result → IsTrue (has_node (nodes self.now) node) }
@@ -230,6 +242,7 @@ impl<'a> Found<'a> {
 
     // The number of a point. What the ground has there is looked up where the point had no number, and there is room for as many chords more as
     // links lead away from it.
+    #[inline(never)]
     fn number<G: Ground, L>(
         &mut self,
         alloc: Global,
@@ -258,6 +271,7 @@ impl<'a> Found<'a> {
     }
 
     // The number of a point to which a link leads from the node at the place `from`. Most links stay at a point.
+    #[inline(always)]
     fn number_from<G: Ground, L>(
         &mut self,
         alloc: Global,
@@ -282,6 +296,7 @@ impl<'a> Found<'a> {
     }
 
     // Adds a node with the entry at the place, unless it is marked. The ground is there for the contract alone.
+    #[inline(always)]
     fn add_marked<G: Ground>(
         &mut self,
         _over: &G,
@@ -309,6 +324,7 @@ impl<'a> Found<'a> {
     }
 
     // Adds a node without an entry, unless it is among the strays. The ground is there for the contract alone.
+    #[inline(never)]
     fn add_stray<G: Ground>(&mut self, _over: &G, item: Item<'a>) -> Result<(), AllocError>
         requires over { IsFoundOver (G.stars_and_areas _over.now) self.old }
         requires item { IsItemOver (G.stars_and_areas _over.now) self.old item }
@@ -327,6 +343,7 @@ impl<'a> Found<'a> {
 
     /// Adds the node at the end, unless it is there. A link leads to it from the node at the place `from`, or it is a start, and `from` is the
     /// number of nodes found before.
+    #[inline(always)]
     pub(crate) fn add<G: Ground, L>(
         &mut self,
         alloc: Global,

@@ -213,7 +213,7 @@ pub fn reach_seen<'a, G: Ground, L>(
     ensures never_falls { steps.old ≤ steps.new }
 {
     let reached = reach_found(alloc, over, starts, mode, barriers, steps)?;
-    let seen = reached.found.sorted(alloc)?;
+    let seen = reached.found.sorted(alloc, over)?;
     Ok(ReachedSeen {
         seen,
         dirt: reached.dirt,

@@ -1,10 +1,11 @@
-use Rattle.std.proofs.Common.{IsPermutation, subst}
-use Rattle.std.proofs.lemmas.List.Sorted.{IsPermutation-trans}
-use Rattle.un_walk.specs.Found.{seens, seens_of}
+use Rattle.un_walk.specs.Found.{seens}
+use Rattle.un_walk.proofs.Entered.{moved_entries}
+use Rattle.un_walk.proofs.Once.{sorted_are}
 use Rattle.un_walk.proofs.found.Found.sorted.Goals as goal
 
-pub returns-clause-permutation : goal.returns-clause-permutation
-returns-clause-permutation c =
-    IsPermutation-trans (seens c.args.self.now) c.in_ok-seen.seen.items c.sort_by_node.new.seen.items
-    (subst (λ items. IsPermutation (seens_of items) c.in_ok-seen.seen.items) c.as_slice.ensures.value c.in_ok-seen.ensures)
-    c.sort_by_node.ensures.permutation
+pub returns-clause-nodes : goal.returns-clause-nodes
+returns-clause-nodes g c = sorted_are c.args.self.now c.in_ok-seen.seen.items c.in_ok-seen.ensures.permutation c.requires.distinct c.in_ok-seen.ensures.sorted
+
+pub returns-clause-entries : goal.returns-clause-entries
+returns-clause-entries g c =
+    moved_entries (g.G.Ground.stars_and_areas c.args._over.now) (seens c.args.self.now) c.in_ok-seen.seen.items c.in_ok-seen.ensures.permutation c.requires.entries
