@@ -13,7 +13,6 @@ use Rattle.un_defs.specs.Ground.{Ground, entry, is_dirty}
 use Rattle.un_defs.specs.Reach.{is_barrier}
 use Rattle.un_defs.proofs.LinkCases.{some_same, both_true}
 use Rattle.un_defs.proofs.Members.{among_from_contains}
-use Rattle.un_walk.specs.declared.found.Item.{Item}
 use Rattle.un_walk.specs.declared.found.Chord.{Chord}
 use Rattle.un_walk.specs.declared.found.Found.{Found}
 use Rattle.un_walk.specs.Found.{nodes}
@@ -41,12 +40,12 @@ has_entry (Some s) t h = search rules
 one_origin : (f : Found) (p q r : ℕ) (t u : Tie) → IsOrigin f p r t → IsOrigin f q r u → t ≡ u
 one_origin f p q r t u o h =
     let same : o.item ≡ h.item = some_same o.item h.item (sym o.at ∙ h.at) in
-    some_same t u (sym o.via ∙ ap (λ (i : Item). option_copied i.via) same ∙ h.via)
+    some_same t u (sym o.via ∙ (λ i. option_copied (same i).via) ∙ h.via)
 
 start_or_origin : (f : Found) (p q : ℕ) (t : Tie) → IsStart f q → IsOrigin f p q t → ⊥
 start_or_origin f p q t s o =
     let same : s.item ≡ o.item = some_same s.item o.item (sym s.at ∙ o.at) in
-    let both : None ≡ Some t = sym s.via ∙ ap (λ (i : Item). option_copied i.via) same ∙ o.via in
+    let both : None ≡ Some t = sym s.via ∙ (λ i. option_copied (same i).via) ∙ o.via in
     cc
 
 module _ (G : Ground) (B : Barriers) (f : Found) where

@@ -18,13 +18,13 @@ use Rattle.un_defs.proofs.Rising.{Among}
 use Rattle.un_defs.proofs.ListLemmas.{map-append}
 use Rattle.un_defs.proofs.Members.{among_from_list_any, among_from-map, among-map, among_from_contains, list_any_from_among}
 use Rattle.un_defs.proofs.Unique.{node_same, node_itself, point_same}
-use Rattle.un_walk.specs.declared.found.Visited.{Visited}
-use Rattle.un_walk.specs.declared.found.Item.{Item}
+use Rattle.un_walk.specs.declared.item.Item.{Item}
 use Rattle.un_walk.specs.declared.found.Found.{Found}
 use Rattle.un_walk.specs.Growth.{has_node, with_node}
 use Rattle.un_walk.specs.Seen.{node_of, spot_of, HaveEntries}
 use Rattle.un_walk.specs.Site.{star_of, IsSite}
-use Rattle.un_walk.specs.Found.{number_of, IsNumberOf, IsWithoutNumber, with_point, place_in, IsPlaceIn, mark_at, IsMark, seens, nodes, IsUnmarked, IsInside, IsMarkedAt, WasMarkedAt, IsItemOver, IsFoundOver}
+use Rattle.un_walk.specs.Visits.{Visited, IsInside, IsMarkedAt, WasMarkedAt}
+use Rattle.un_walk.specs.Found.{number_of, IsNumberOf, IsWithoutNumber, with_point, place_in, IsPlaceIn, mark_at, IsMark, seens, nodes, IsUnmarkedAt, IsItemOver, IsFoundOver}
 use Rattle.un_walk.proofs.Entered.{each_entry, nodes_end, entries_end}
 use Rattle.un_walk.proofs.Growing.{contains_at}
 use Rattle.un_walk.proofs.Marking.{first_passes, position_map, any_last, point_new, number_stays, marked_more, marked_at, marked_set}
@@ -115,17 +115,17 @@ with_longer ns n = go (has_node ns n)
     go false = omega (arith, length-append ns (n ∷ []))
 
 -- the same in the same lists
-pub same_found : (G : Ground) (f g : Found) → IsFoundOver G f → g.points ≡ f.points → g.visited.items ≡ f.visited.items → g.strays ≡ f.strays → g.items.items ≡ f.items.items → IsFoundOver G g
+pub same_found : (G : Ground) (f g : Found) → IsFoundOver G f → g.points ≡ f.points → g.visited ≡ f.visited → g.strays ≡ f.strays → g.items.items ≡ f.items.items → IsFoundOver G g
 same_found G f g is points visited strays items = record {
   points = points ∙ is.points ∙ ap (map (λ (x : Visited). x.site.at)) (sym visited);
   sites = subst (All (λ (x : Visited). IsSite G x.site)) (sym visited) is.sites;
-  counts = subst (All (λ (x : Visited). length x.marks.items ≡ length (star_of x.site).spots)) (sym visited) is.counts;
+  counts = subst (All (λ (x : Visited). length x.marks ≡ length (star_of x.site).spots)) (sym visited) is.counts;
   numbers = subst (λ l. All (λ (i : Item). IsNumberOf g.points i.seen.node.at i.number) l) (sym items)
       (subst (λ ps. All (λ (i : Item). IsNumberOf ps i.seen.node.at i.number) f.items.items) (sym points) is.numbers);
   origins = subst (λ l. All (λ (i : Item). i.from < length l) l) (sym items) is.origins;
   entries = subst (λ l. HaveEntries G (map (λ (x : Item). x.seen) l)) (sym items) is.entries;
   distinct = subst (λ l. IsDistinct same_node (map node_of (map (λ (x : Item). x.seen) l))) (sym items) is.distinct;
-  marked = λ n h. subst (λ l. IsMark (map node_of (map (λ (x : Item). x.seen) l)) n (mark_at g.visited.items n)) (sym items)
+  marked = λ n h. subst (λ l. IsMark (map node_of (map (λ (x : Item). x.seen) l)) n (mark_at g.visited n)) (sym items)
       (subst (λ l. IsMark (nodes f) n (mark_at l n)) (sym visited) (is.marked n h));
   strays = λ n h. ap (λ l. has_node l n) strays ∙ is.strays n h ∙ ap (λ l. has_node (map node_of (map (λ (x : Item). x.seen) l)) n) (sym items);
 }
@@ -163,11 +163,11 @@ module _ (G : Ground) where
             absurd (omega (arith, l, number.0, number.1, ap (λ (m : Node). number_of f.points m.at) same))
 
     -- the number of a point is the place of what was visited there
-    pub visited_at : (p : Point) (number : ℕ) → IsNumberOf f.points p number → number ≡ position_or_len (λ (v : Visited). same_point p v.site.at) f.visited.items
-    visited_at p number h = h.0 ∙ ap (position_or_len (same_point p)) is.points ∙ position_map (λ (v : Visited). v.site.at) (same_point p) f.visited.items
+    pub visited_at : (p : Point) (number : ℕ) → IsNumberOf f.points p number → number ≡ position_or_len (λ (v : Visited). same_point p v.site.at) f.visited
+    visited_at p number h = h.0 ∙ ap (position_or_len (same_point p)) is.points ∙ position_map (λ (v : Visited). v.site.at) (same_point p) f.visited
 
-    pub visited_within : (p : Point) (number : ℕ) → IsNumberOf f.points p number → number < length f.visited.items
-    visited_within p number h = omega (arith, h.1, ap length is.points, length-map f.visited.items (λ (v : Visited). v.site.at))
+    pub visited_within : (p : Point) (number : ℕ) → IsNumberOf f.points p number → number < length f.visited
+    visited_within p number h = omega (arith, h.1, ap length is.points, length-map f.visited (λ (v : Visited). v.site.at))
 
     -- a star is looked up for a node that is the first at its point
     pub add_counts : (n : Node) (before after : ℕ) → (after ≡ before) ⊎ ((after ≤ before + 1) × IsWithoutNumber f.points n.at) → after + length (nodes f) ≤ before + length (with_node (nodes f) n)
@@ -177,30 +177,30 @@ module _ (G : Ground) where
     ]
 
     -- one point more, at which nothing is marked
-    pub point_more : (p : Point) (v : Visited) → IsUnmarked G p v → IsWithoutNumber f.points p → (g : Found) → g.points ≡ with_point f.points p → g.visited.items ≡ f.visited.items ++ v ∷ []
+    pub point_more : (p : Point) (v : Visited) → IsUnmarkedAt G p v → IsWithoutNumber f.points p → (g : Found) → g.points ≡ with_point f.points p → g.visited ≡ f.visited ++ v ∷ []
         → g.strays ≡ f.strays → g.items ≡ f.items → IsFoundOver G g
     point_more p v unmarked new g points visited strays items = record {
-      points = points ∙ point_new f.points p new ∙ ap (λ l. l ++ p ∷ []) is.points ∙ ap (λ q. map (λ (x : Visited). x.site.at) f.visited.items ++ q ∷ []) (sym unmarked.at)
-          ∙ sym (map-append (λ (x : Visited). x.site.at) f.visited.items (v ∷ [])) ∙ ap (map (λ (x : Visited). x.site.at)) (sym visited);
-      sites = subst (All (λ (x : Visited). IsSite G x.site)) (sym visited) (All-append (λ (x : Visited). IsSite G x.site) f.visited.items (v ∷ []) is.sites (all_one (λ (x : Visited). IsSite G x.site) v unmarked.site));
-      counts = subst (All (λ (x : Visited). length x.marks.items ≡ length (star_of x.site).spots)) (sym visited)
-          (All-append (λ (x : Visited). length x.marks.items ≡ length (star_of x.site).spots) f.visited.items (v ∷ []) is.counts (all_one (λ (x : Visited). length x.marks.items ≡ length (star_of x.site).spots) v unmarked.count));
+      points = points ∙ point_new f.points p new ∙ ap (λ l. l ++ p ∷ []) is.points ∙ ap (λ q. map (λ (x : Visited). x.site.at) f.visited ++ q ∷ []) (sym unmarked.at)
+          ∙ sym (map-append (λ (x : Visited). x.site.at) f.visited (v ∷ [])) ∙ ap (map (λ (x : Visited). x.site.at)) (sym visited);
+      sites = subst (All (λ (x : Visited). IsSite G x.site)) (sym visited) (All-append (λ (x : Visited). IsSite G x.site) f.visited (v ∷ []) is.sites (all_one (λ (x : Visited). IsSite G x.site) v unmarked.site));
+      counts = subst (All (λ (x : Visited). length x.marks ≡ length (star_of x.site).spots)) (sym visited)
+          (All-append (λ (x : Visited). length x.marks ≡ length (star_of x.site).spots) f.visited (v ∷ []) is.counts (all_one (λ (x : Visited). length x.marks ≡ length (star_of x.site).spots) v unmarked.unmarked.count));
       numbers = subst (λ l. All (λ (i : Item). IsNumberOf g.points i.seen.node.at i.number) l.items) (sym items)
           (all_each (λ (i : Item). IsNumberOf f.points i.seen.node.at i.number) (λ (i : Item). IsNumberOf g.points i.seen.node.at i.number)
           (λ i h. subst (λ l. IsNumberOf l i.seen.node.at i.number) (sym (points ∙ point_new f.points p new)) (number_stays f.points i.seen.node.at p i.number h)) f.items.items is.numbers);
       origins = subst (λ l. All (λ (i : Item). i.from < length l.items) l.items) (sym items) is.origins;
       entries = subst (λ l. HaveEntries G (map (λ (x : Item). x.seen) l.items)) (sym items) is.entries;
       distinct = subst (λ l. IsDistinct same_node (map node_of (map (λ (x : Item). x.seen) l.items))) (sym items) is.distinct;
-      marked = λ n h. subst (λ l. IsMark (map node_of (map (λ (x : Item). x.seen) l.items)) n (mark_at g.visited.items n)) (sym items)
-          (subst (IsMark (nodes f) n) (sym (ap (λ l. mark_at l n) visited ∙ marked_more f.visited.items v unmarked.none n)) (is.marked n h));
+      marked = λ n h. subst (λ l. IsMark (map node_of (map (λ (x : Item). x.seen) l.items)) n (mark_at g.visited n)) (sym items)
+          (subst (IsMark (nodes f) n) (sym (ap (λ l. mark_at l n) visited ∙ marked_more f.visited v unmarked.unmarked.none n)) (is.marked n h));
       strays = λ n h. ap (λ l. has_node l n) strays ∙ is.strays n h ∙ ap (λ l. has_node (map node_of (map (λ (x : Item). x.seen) l.items)) n) (sym items);
     }
 
     -- the point of what was visited
-    pub site_at : (n : Node) (number : ℕ) (v : Visited) → IsNumberOf f.points n.at number → slice_get f.visited.items number ≡ Some v → v.site.at ≡ n.at
+    pub site_at : (n : Node) (number : ℕ) (v : Visited) → IsNumberOf f.points n.at number → slice_get f.visited number ≡ Some v → v.site.at ≡ n.at
     site_at n number v h at =
-        let r = first_passes (λ (x : Visited). same_point n.at x.site.at) f.visited.items (subst (λ k. k < length f.visited.items) (visited_at n.at number h) (visited_within n.at number h)) in
-        let one : Some v ≡ Some r.0 = sym at ∙ ap (slice_get f.visited.items) (visited_at n.at number h) ∙ r.1 in
+        let r = first_passes (λ (x : Visited). same_point n.at x.site.at) f.visited (subst (λ k. k < length f.visited) (visited_at n.at number h) (visited_within n.at number h)) in
+        let one : Some v ≡ Some r.0 = sym at ∙ ap (slice_get f.visited) (visited_at n.at number h) ∙ r.1 in
         ap (λ (x : Visited). x.site.at) (one_of one) ∙ sym (point_same n.at (r.0).site.at r.2)
       where
         one_of : {x y : Visited} → Some x ≡ Some y → x ≡ y
@@ -216,24 +216,24 @@ module _ (G : Ground) where
         some_is s = search rules
 
     -- the star of what was visited
-    pub star_here : (n : Node) (number : ℕ) (v : Visited) → IsNumberOf f.points n.at number → slice_get f.visited.items number ≡ Some v → star_of v.site ≡ G.stars n.at
+    pub star_here : (n : Node) (number : ℕ) (v : Visited) → IsNumberOf f.points n.at number → slice_get f.visited number ≡ Some v → star_of v.site ≡ G.stars n.at
     star_here n number v h at =
-        let mine : get_or f.visited.items number v ≡ v = get_or_from_slice_get f.visited.items number v v at in
-        let site : IsSite G v.site = subst (λ (x : Visited). IsSite G x.site) mine (All-get_or (λ (x : Visited). IsSite G x.site) f.visited.items number v (visited_within n.at number h) is.sites) in
+        let mine : get_or f.visited number v ≡ v = get_or_from_slice_get f.visited number v v at in
+        let site : IsSite G v.site = subst (λ (x : Visited). IsSite G x.site) mine (All-get_or (λ (x : Visited). IsSite G x.site) f.visited number v (visited_within n.at number h) is.sites) in
         site.star ∙ ap G.stars (site_at n number v h at)
 
     -- the mark of a node with an entry, which stands at the place of the star with the number
-    pub marked_here : (n : Node) (number place : ℕ) (v : Visited) → IsNumberOf f.points n.at number → IsPlaceIn (G.stars n.at) n.port place → slice_get f.visited.items number ≡ Some v
-        → (star_of v.site ≡ G.stars n.at) × IsMark (nodes f) n (get_or v.marks.items place 0) × (length v.marks.items ≡ length (star_of v.site).spots)
+    pub marked_here : (n : Node) (number place : ℕ) (v : Visited) → IsNumberOf f.points n.at number → IsPlaceIn (G.stars n.at) n.port place → slice_get f.visited number ≡ Some v
+        → (star_of v.site ≡ G.stars n.at) × IsMark (nodes f) n (get_or v.marks place 0) × (length v.marks ≡ length (star_of v.site).spots)
     marked_here n number place v h is_place at =
-        let within : number < length f.visited.items = visited_within n.at number h in
-        let mine : get_or f.visited.items number v ≡ v = get_or_from_slice_get f.visited.items number v v at in
-        let count : length v.marks.items ≡ length (star_of v.site).spots = subst (λ (x : Visited). length x.marks.items ≡ length (star_of x.site).spots) mine (All-get_or (λ (x : Visited). length x.marks.items ≡ length (star_of x.site).spots) f.visited.items number v within is.counts) in
+        let within : number < length f.visited = visited_within n.at number h in
+        let mine : get_or f.visited number v ≡ v = get_or_from_slice_get f.visited number v v at in
+        let count : length v.marks ≡ length (star_of v.site).spots = subst (λ (x : Visited). length x.marks ≡ length (star_of x.site).spots) mine (All-get_or (λ (x : Visited). length x.marks ≡ length (star_of x.site).spots) f.visited number v within is.counts) in
         let star : star_of v.site ≡ G.stars n.at = star_here n number v h at in
         let some : IsSome (entry G n) = has_entry n place is_place in (
           star,
-          subst (IsMark (nodes f) n) (marked_at f.visited.items n v (ap (slice_get f.visited.items) (sym (visited_at n.at number h)) ∙ at)
-              ∙ ap (λ i. get_or v.marks.items i 0) (ap (λ s. place_in s n.port) star ∙ sym is_place.0)) (is.marked n some),
+          subst (IsMark (nodes f) n) (marked_at f.visited n v (ap (slice_get f.visited) (sym (visited_at n.at number h)) ∙ at)
+              ∙ ap (λ i. get_or v.marks i 0) (ap (λ s. place_in s n.port) star ∙ sym is_place.0)) (is.marked n some),
           count,
         )
 
@@ -271,59 +271,59 @@ module _ (G : Ground) where
         subst (HaveEntries G) (sym (ap (map (λ (x : Item). x.seen)) items ∙ seens_end f.items.items i)) (entries_end G (seens f) i.seen is.entries item.entry)
 
     -- there is a mark at the place of the star with the number
-    pub marked_inside : (n : Node) (number place : ℕ) → IsNumberOf f.points n.at number → IsPlaceIn (G.stars n.at) n.port place → IsInside f.visited.items number place
+    pub marked_inside : (n : Node) (number place : ℕ) → IsNumberOf f.points n.at number → IsPlaceIn (G.stars n.at) n.port place → IsInside f.visited number place
     marked_inside n number place h is_place =
-        let r = first_passes (λ (x : Visited). same_point n.at x.site.at) f.visited.items (subst (λ k. k < length f.visited.items) (visited_at n.at number h) (visited_within n.at number h)) in
-        let at : slice_get f.visited.items number ≡ Some r.0 = ap (slice_get f.visited.items) (visited_at n.at number h) ∙ r.1 in
+        let r = first_passes (λ (x : Visited). same_point n.at x.site.at) f.visited (subst (λ k. k < length f.visited) (visited_at n.at number h) (visited_within n.at number h)) in
+        let at : slice_get f.visited number ≡ Some r.0 = ap (slice_get f.visited) (visited_at n.at number h) ∙ r.1 in
         let here = marked_here n number place r.0 h is_place at in
         (r.0, at, omega (arith, is_place.1, here.2, ap (λ s. length s.spots) here.0))
 
     -- a node whose mark was off is not found yet
-    pub marked_new : (n : Node) (number place x : ℕ) → IsNumberOf f.points n.at number → IsPlaceIn (G.stars n.at) n.port place → (vs : List Visited) → IsMarkedAt f.visited.items vs number place x → has_node (nodes f) n ≡ false
+    pub marked_new : (n : Node) (number place x : ℕ) → IsNumberOf f.points n.at number → IsPlaceIn (G.stars n.at) n.port place → (vs : List Visited) → IsMarkedAt f.visited vs number place x → has_node (nodes f) n ≡ false
     marked_new n number place x h is_place vs mark = subst (IsMark (nodes f) n) mark.off (marked_here n number place mark.before h is_place mark.at).1
 
     -- a node whose mark was on is found already
-    pub marked_twice : (n : Node) (number place k : ℕ) → IsNumberOf f.points n.at number → IsPlaceIn (G.stars n.at) n.port place → WasMarkedAt f.visited.items number place (k + 1) → has_node (nodes f) n ≡ true
+    pub marked_twice : (n : Node) (number place k : ℕ) → IsNumberOf f.points n.at number → IsPlaceIn (G.stars n.at) n.port place → WasMarkedAt f.visited number place (k + 1) → has_node (nodes f) n ≡ true
     marked_twice n number place k h is_place was = mark_has (nodes f) n k (subst (IsMark (nodes f) n) was.2 (marked_here n number place was.0 h is_place was.1).1)
 
     -- it stands where its mark tells
-    pub marked_place : (n : Node) (number place k : ℕ) → IsNumberOf f.points n.at number → IsPlaceIn (G.stars n.at) n.port place → WasMarkedAt f.visited.items number place (k + 1) → slice_get (nodes f) k ≡ Some n
+    pub marked_place : (n : Node) (number place k : ℕ) → IsNumberOf f.points n.at number → IsPlaceIn (G.stars n.at) n.port place → WasMarkedAt f.visited number place (k + 1) → slice_get (nodes f) k ≡ Some n
     marked_place n number place k h is_place was = subst (IsMark (nodes f) n) (was.2 ∙ add-one k) (marked_here n number place was.0 h is_place was.1).1
 
     -- the mark of a node once another one is found
-    mark_after : (n : Node) (x : ℕ) → x ≡ length f.items.items + 1 → (m : Node) → IsSome (entry G m) → (b : Bool) → same_node m n ≡ b → IsMark (nodes f ++ n ∷ []) m (cond b x (mark_at f.visited.items m))
-    mark_after n x last m h false e = mark_more (nodes f) n m (mark_at f.visited.items m) e (is.marked m h)
+    mark_after : (n : Node) (x : ℕ) → x ≡ length f.items.items + 1 → (m : Node) → IsSome (entry G m) → (b : Bool) → same_node m n ≡ b → IsMark (nodes f ++ n ∷ []) m (cond b x (mark_at f.visited m))
+    mark_after n x last m h false e = mark_more (nodes f) n m (mark_at f.visited m) e (is.marked m h)
     mark_after n x last m h true e =
         subst (λ (k : Node). IsMark (nodes f ++ n ∷ []) k x) (sym (node_same m n e))
         (subst (IsMark (nodes f ++ n ∷ []) n) (sym (last ∙ ap (λ k. k + 1) (sym (count_nodes f)) ∙ add-one (length (nodes f)))) (mark_new (nodes f) n))
 
     -- one node more with an entry
-    pub marked_node : (i : Item) (place : ℕ) → IsItemOver G f i → IsPlaceIn (G.stars i.seen.node.at) i.seen.node.port place → (vs : List Visited) (x : ℕ) → x ≡ length f.items.items + 1 → IsMarkedAt f.visited.items vs i.number place x
-        → (g : Found) → g.points ≡ f.points → g.visited.items ≡ vs → g.strays ≡ f.strays → g.items.items ≡ f.items.items ++ i ∷ [] → IsFoundOver G g × (nodes g ≡ with_node (nodes f) i.seen.node)
+    pub marked_node : (i : Item) (place : ℕ) → IsItemOver G f i → IsPlaceIn (G.stars i.seen.node.at) i.seen.node.port place → (vs : List Visited) (x : ℕ) → x ≡ length f.items.items + 1 → IsMarkedAt f.visited vs i.number place x
+        → (g : Found) → g.points ≡ f.points → g.visited ≡ vs → g.strays ≡ f.strays → g.items.items ≡ f.items.items ++ i ∷ [] → IsFoundOver G g × (nodes g ≡ with_node (nodes f) i.seen.node)
     marked_node i place item is_place vs x last mark g points visited strays items =
         let n : Node = i.seen.node in
         let here = marked_here n i.number place mark.before item.number is_place mark.at in
         let new : has_node (nodes f) n ≡ false = subst (IsMark (nodes f) n) mark.off here.1 in
         let more : nodes g ≡ nodes f ++ n ∷ [] = nodes_more f g i items in
-        let all : g.visited.items ≡ set f.visited.items i.number mark.after = visited ∙ mark.is in
-        let within : i.number < length f.visited.items = visited_within n.at i.number item.number in
-        let mine : get_or f.visited.items i.number mark.before ≡ mark.before = get_or_from_slice_get f.visited.items i.number mark.before mark.before mark.at in
-        let count : length mark.after.marks.items ≡ length (star_of mark.after.site).spots =
-        ap length mark.marks ∙ length-set mark.before.marks.items place x ∙ here.2 ∙ ap (λ s. length (star_of s).spots) (sym mark.site) in
-        let site : IsSite G mark.before.site = subst (λ (x : Visited). IsSite G x.site) mine (All-get_or (λ (x : Visited). IsSite G x.site) f.visited.items i.number mark.before within is.sites) in (
+        let all : g.visited ≡ set f.visited i.number mark.after = visited ∙ mark.is in
+        let within : i.number < length f.visited = visited_within n.at i.number item.number in
+        let mine : get_or f.visited i.number mark.before ≡ mark.before = get_or_from_slice_get f.visited i.number mark.before mark.before mark.at in
+        let count : length mark.after.marks ≡ length (star_of mark.after.site).spots =
+        ap length mark.marks ∙ length-set mark.before.marks place x ∙ here.2 ∙ ap (λ s. length (star_of s).spots) (sym mark.site) in
+        let site : IsSite G mark.before.site = subst (λ (x : Visited). IsSite G x.site) mine (All-get_or (λ (x : Visited). IsSite G x.site) f.visited i.number mark.before within is.sites) in (
           record {
-            points = points ∙ is.points ∙ sym (map-set_same (λ (x : Visited). x.site.at) f.visited.items i.number mark.after mark.before (ap (λ s. s.at) mark.site ∙ ap (λ (x : Visited). x.site.at) (sym mine)))
+            points = points ∙ is.points ∙ sym (map-set_same (λ (x : Visited). x.site.at) f.visited i.number mark.after mark.before (ap (λ s. s.at) mark.site ∙ ap (λ (x : Visited). x.site.at) (sym mine)))
                 ∙ ap (map (λ (x : Visited). x.site.at)) (sym all);
-            sites = subst (All (λ (x : Visited). IsSite G x.site)) (sym all) (All-set (λ (x : Visited). IsSite G x.site) f.visited.items i.number mark.after (subst (IsSite G) (sym mark.site) site) is.sites);
-            counts = subst (All (λ (x : Visited). length x.marks.items ≡ length (star_of x.site).spots)) (sym all)
-                (All-set (λ (x : Visited). length x.marks.items ≡ length (star_of x.site).spots) f.visited.items i.number mark.after count is.counts);
+            sites = subst (All (λ (x : Visited). IsSite G x.site)) (sym all) (All-set (λ (x : Visited). IsSite G x.site) f.visited i.number mark.after (subst (IsSite G) (sym mark.site) site) is.sites);
+            counts = subst (All (λ (x : Visited). length x.marks ≡ length (star_of x.site).spots)) (sym all)
+                (All-set (λ (x : Visited). length x.marks ≡ length (star_of x.site).spots) f.visited i.number mark.after count is.counts);
             numbers = numbers_more i item g points items;
             origins = origins_more i item g items;
             entries = entries_more i item g items;
             distinct = subst (IsDistinct same_node) (sym more) (IsDistinct-push same_node_laws (nodes f) n is.distinct new);
-            marked = λ m h. subst (λ l. IsMark l m (mark_at g.visited.items m)) (sym more)
+            marked = λ m h. subst (λ l. IsMark l m (mark_at g.visited m)) (sym more)
                 (subst (IsMark (nodes f ++ n ∷ []) m) (sym (ap (λ l. mark_at l m) all
-                ∙ marked_set f.visited.items n i.number mark.before mark.after (visited_at n.at i.number item.number) mark.at mark.site place
+                ∙ marked_set f.visited n i.number mark.before mark.after (visited_at n.at i.number item.number) mark.at mark.site place
                 (is_place.0 ∙ ap (λ s. place_in s n.port) (sym here.0)) (subst (λ s. place < length s.spots) (sym here.0) is_place.1) here.2 x mark.marks m))
                 (mark_after n x last m h (same_node m n) refl));
             strays = λ m h. ap (λ l. has_node l m) strays ∙ is.strays m h ∙ sym (ap (λ b. has_node (nodes f) m || b) (unlike n m place is_place h) ∙ or_false (has_node (nodes f) m))
@@ -340,15 +340,15 @@ module _ (G : Ground) where
         let new : has_node (nodes f) n ≡ false = sym (is.strays n none) ∙ off in
         let more : nodes g ≡ nodes f ++ n ∷ [] = nodes_more f g i items in (
           record {
-            points = points ∙ is.points ∙ ap (λ l. map (λ (x : Visited). x.site.at) l.items) (sym visited);
-            sites = subst (λ l. All (λ (x : Visited). IsSite G x.site) l.items) (sym visited) is.sites;
-            counts = subst (λ l. All (λ (x : Visited). length x.marks.items ≡ length (star_of x.site).spots) l.items) (sym visited) is.counts;
+            points = points ∙ is.points ∙ ap (map (λ (x : Visited). x.site.at)) (sym visited);
+            sites = subst (All (λ (x : Visited). IsSite G x.site)) (sym visited) is.sites;
+            counts = subst (All (λ (x : Visited). length x.marks ≡ length (star_of x.site).spots)) (sym visited) is.counts;
             numbers = numbers_more i item g points items;
             origins = origins_more i item g items;
             entries = entries_more i item g items;
             distinct = subst (IsDistinct same_node) (sym more) (IsDistinct-push same_node_laws (nodes f) n is.distinct new);
-            marked = λ m h. subst (λ l. IsMark l m (mark_at g.visited.items m)) (sym more)
-                (mark_more (nodes f) n m (mark_at g.visited.items m) (other m h (same_node m n) refl) (subst (λ l. IsMark (nodes f) m (mark_at l.items m)) (sym visited) (is.marked m h)));
+            marked = λ m h. subst (λ l. IsMark l m (mark_at g.visited m)) (sym more)
+                (mark_more (nodes f) n m (mark_at g.visited m) (other m h (same_node m n) refl) (subst (λ l. IsMark (nodes f) m (mark_at l m)) (sym visited) (is.marked m h)));
             strays = λ m h. ap (λ l. has_node l m) (strays ∙ with_new f.strays n off) ∙ has_more f.strays n m ∙ ap (λ b. b || same_node m n) (is.strays m h)
                 ∙ sym (has_more (nodes f) n m) ∙ ap (λ l. has_node l m) (sym more);
           },

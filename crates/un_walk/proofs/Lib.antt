@@ -9,3 +9,4 @@ pub mod Entered
 pub mod FoundOver
 pub mod Tracing
 pub mod Keyed
+pub mod Visiting

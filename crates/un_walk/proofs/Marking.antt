@@ -16,7 +16,7 @@ use Rattle.un_defs.specs.declared.port.Node.{Node}
 use Rattle.un_defs.specs.declared.star.Spot.{Spot}
 use Rattle.un_defs.specs.Orders.{same_port, same_node}
 use Rattle.un_defs.proofs.Unique.{point_same, point_itself, port_same, port_itself}
-use Rattle.un_walk.specs.declared.found.Visited.{Visited}
+use Rattle.un_walk.specs.Visits.{Visited}
 use Rattle.un_walk.specs.Site.{star_of}
 use Rattle.un_walk.specs.Found.{number_of, IsNumberOf, IsWithoutNumber, with_point, place_in, mark_of, mark_at}
 
@@ -151,12 +151,12 @@ all_off [] k h = refl
 all_off (m ∷ ms) zero h = All-head (λ m. m ≡ 0) m ms h
 all_off (m ∷ ms) (suc k) h = all_off ms k (All-tail (λ m. m ≡ 0) m ms h)
 
-pub marked_more : (vs : List Visited) (v : Visited) → All (λ m. m ≡ 0) v.marks.items → (n : Node) → mark_at (vs ++ v ∷ []) n ≡ mark_at vs n
+pub marked_more : (vs : List Visited) (v : Visited) → All (λ m. m ≡ 0) v.marks → (n : Node) → mark_at (vs ++ v ∷ []) n ≡ mark_at vs n
 marked_more vs v off n =
     ap (λ o. option_map_or (mark_of n.port) o 0) (find-append (is_at n) vs (v ∷ [])) ∙ go (find (is_at n) vs)
   where
     last : (b : Bool) → option_map_or (mark_of n.port) (cond b (Some v) None) 0 ≡ 0
-    last true = all_off v.marks.items (place_in (star_of v.site) n.port) off
+    last true = all_off v.marks (place_in (star_of v.site) n.port) off
     last false = refl
 
     go : (o : Option Visited) → option_map_or (mark_of n.port) (option_or o (find (is_at n) (v ∷ []))) 0 ≡ option_map_or (mark_of n.port) o 0
@@ -177,8 +177,8 @@ same_place spots q r j l e f =
 
 -- one mark more is one marked node more
 pub marked_set : (vs : List Visited) (n : Node) (k : ℕ) (v w : Visited) → k ≡ position_or_len (is_at n) vs → slice_get vs k ≡ Some v → w.site ≡ v.site
-    → (j : ℕ) → j ≡ place_in (star_of v.site) n.port → j < length (star_of v.site).spots → length v.marks.items ≡ length (star_of v.site).spots
-    → (x : ℕ) → w.marks.items ≡ set v.marks.items j x → (m : Node) → mark_at (set vs k w) m ≡ cond (same_node m n) x (mark_at vs m)
+    → (j : ℕ) → j ≡ place_in (star_of v.site) n.port → j < length (star_of v.site).spots → length v.marks ≡ length (star_of v.site).spots
+    → (x : ℕ) → w.marks ≡ set v.marks j x → (m : Node) → mark_at (set vs k w) m ≡ cond (same_node m n) x (mark_at vs m)
 marked_set vs n k v w at is site j place inside count x marks m = by_point (same_point m.at n.at) refl
   where
     here : is_at n v ≡ true
@@ -194,12 +194,12 @@ marked_set vs n k v w at is site j place inside count x marks m = by_point (same
     by_port same true e =
         let q : m.port ≡ n.port = port_same m.port n.port e in
         (λ i. get_or (marks i) (place_in (star_of (site i)) (q i)) 0)
-        ∙ ap (λ i. get_or (set v.marks.items j x) i 0) (sym place)
-        ∙ get_or-set_same v.marks.items j x 0 (omega (arith, inside, count))
+        ∙ ap (λ i. get_or (set v.marks j x) i 0) (sym place)
+        ∙ get_or-set_same v.marks j x 0 (omega (arith, inside, count))
         ∙ sym (ap (λ b. cond b x (mark_of m.port v)) (ap (λ p. same_point p n.at) same ∙ point_itself n.at))
     by_port same false e =
         (λ i. get_or (marks i) (place_in (star_of (site i)) m.port) 0)
-        ∙ get_or-set_other v.marks.items j (place_in (star_of v.site) m.port) x 0
+        ∙ get_or-set_other v.marks j (place_in (star_of v.site) m.port) x 0
         (λ f. true≢false (sym (port_itself n.port) ∙ ap (λ q. same_port q n.port) (same_place (star_of v.site).spots n.port m.port j inside place (sym f)) ∙ e))
 
     by_point : (b : Bool) → same_point m.at n.at ≡ b → mark_at (set vs k w) m ≡ cond (same_port m.port n.port && same_point m.at n.at) x (mark_at vs m)

@@ -18,7 +18,7 @@ use Rattle.un_defs.proofs.LinkCases.{some_same, both_true}
 use Rattle.un_defs.proofs.Members.{among_left, among_right, among_cases, contains_from_among, among_from_contains, list_any_from_among, among_from_list_any}
 use Rattle.un_defs.proofs.Rising.{Among}
 use Rattle.un_defs.proofs.Unique.{node_same, node_itself}
-use Rattle.un_walk.specs.declared.found.Item.{Item}
+use Rattle.un_walk.specs.declared.item.Item.{Item}
 use Rattle.un_walk.specs.declared.found.Chord.{Chord}
 use Rattle.un_walk.specs.declared.found.Found.{Found}
 use Rattle.un_walk.specs.Growth.{has_node, with_node}

@@ -1,5 +1,5 @@
 -- What a walk has found over a ground: nodes, by marks on the entries of stars.
-use Rattle.std.specs.Prelude.{◌≡◌, ℕ, zero, suc, ◌+◌, ◌<◌, ◌≤◌, false, List, [], ◌∷◌, ◌++◌, map, length, get_or, set, slice_get, find, All, IsSome, Some, None, if◌then◌else◌}
+use Rattle.std.specs.Prelude.{◌≡◌, ℕ, zero, suc, ◌+◌, ◌<◌, ◌≤◌, false, List, [], ◌∷◌, ◌++◌, map, length, get_or, slice_get, find, All, IsSome, Some, None, if◌then◌else◌}
 use Rattle.std.specs.List.{IsDistinct, list_any, position_or_len}
 use Rattle.std.specs.Option.{option_map_or}
 use Rattle.un_geom.specs.declared.point.Point.{Point}
@@ -10,12 +10,12 @@ use Rattle.un_defs.specs.declared.star.Star.{Star}
 use Rattle.un_defs.specs.Orders.{same_port, same_node}
 use Rattle.un_defs.specs.Ground.{Ground, entry}
 use Rattle.un_walk.specs.declared.seen.Seen.{Seen}
-use Rattle.un_walk.specs.declared.found.Visited.{Visited}
-use Rattle.un_walk.specs.declared.found.Item.{Item}
+use Rattle.un_walk.specs.declared.item.Item.{Item}
 use Rattle.un_walk.specs.declared.found.Found.{Found}
 use Rattle.un_walk.specs.Growth.{has_node}
 use Rattle.un_walk.specs.Seen.{spot_of, nodes_of, HaveEntries}
 use Rattle.un_walk.specs.Site.{star_of, IsSite}
+use Rattle.un_walk.specs.Visits.{Visited, count_of, IsUnmarked}
 
 -- the place of the point among these, or how many there are
 abbrev pub number_of : List Point → Point → ℕ
@@ -43,7 +43,7 @@ IsPlaceIn star q place = (place ≡ place_in star q) × (place < length star.spo
 
 -- the mark of the port's entry, 0 where there is none
 abbrev pub mark_of : Port → Visited → ℕ
-mark_of q v = get_or v.marks.items (place_in (star_of v.site) q) 0
+mark_of q v = get_or v.marks (place_in (star_of v.site) q) 0
 
 -- the mark of the node's entry at its point, 0 where there is none
 abbrev pub mark_at : List Visited → Node → ℕ
@@ -65,29 +65,10 @@ abbrev pub nodes : Found → List Node
 nodes f = nodes_of (seens f)
 
 -- what the ground has at the point, with no mark
-pub record IsUnmarked (G : Ground) (p : Point) (v : Visited) : Type 0 where
+pub record IsUnmarkedAt (G : Ground) (p : Point) (v : Visited) : Type 0 where
   pub at : v.site.at ≡ p
   pub site : IsSite G v.site
-  pub count : length v.marks.items ≡ length (star_of v.site).spots
-  pub none : All (λ mark. mark ≡ 0) v.marks.items
-
--- there is a mark at the place of the star with the number
-abbrev pub IsInside : List Visited → ℕ → ℕ → Type 0
-IsInside vs number place = (v : Visited) × (slice_get vs number ≡ Some v) × (place < length v.marks.items)
-
--- the mark there was 0, and is this one
-pub record IsMarkedAt (old new : List Visited) (number place mark : ℕ) : Type 0 where
-  pub before : Visited
-  pub after : Visited
-  pub at : slice_get old number ≡ Some before
-  pub is : new ≡ set old number after
-  pub site : after.site ≡ before.site
-  pub marks : after.marks.items ≡ set before.marks.items place mark
-  pub off : get_or before.marks.items place 0 ≡ 0
-
--- the mark there is this one
-abbrev pub WasMarkedAt : List Visited → ℕ → ℕ → ℕ → Type 0
-WasMarkedAt vs number place mark = (v : Visited) × (slice_get vs number ≡ Some v) × (get_or v.marks.items place 0 ≡ mark)
+  pub unmarked : IsUnmarked v
 
 -- an item to come: a node with its entry, the number of its point and the place that it was found from
 pub record IsItemOver (G : Ground) (f : Found) (i : Item) : Type 0 where
@@ -98,12 +79,12 @@ pub record IsItemOver (G : Ground) (f : Found) (i : Item) : Type 0 where
 -- the nodes are distinct, each with its entry and the number of its point; of the nodes with an entry exactly these are marked, with their
 -- places, and of the others exactly these are strays
 pub record IsFoundOver (G : Ground) (f : Found) : Type 0 where
-  pub points : f.points ≡ map (λ v. v.site.at) f.visited.items
-  pub sites : All (λ v. IsSite G v.site) f.visited.items
-  pub counts : All (λ v. length v.marks.items ≡ length (star_of v.site).spots) f.visited.items
+  pub points : f.points ≡ map (λ v. v.site.at) f.visited
+  pub sites : All (λ v. IsSite G v.site) f.visited
+  pub counts : All (λ v. length v.marks ≡ count_of v.site) f.visited
   pub numbers : All (λ i. IsNumberOf f.points i.seen.node.at i.number) f.items.items
   pub origins : All (λ i. i.from < length f.items.items) f.items.items
   pub entries : HaveEntries G (seens f)
   pub distinct : IsDistinct same_node (nodes f)
-  pub marked : (n : Node) → IsSome (entry G n) → IsMark (nodes f) n (mark_at f.visited.items n)
+  pub marked : (n : Node) → IsSome (entry G n) → IsMark (nodes f) n (mark_at f.visited n)
   pub strays : (n : Node) → entry G n ≡ None → has_node f.strays n ≡ has_node (nodes f) n

@@ -9,3 +9,5 @@ pub mod Found
 pub mod Ticks
 pub mod Traced
 pub mod Spread
+pub mod Visits
+pub mod Packed

@@ -8,7 +8,7 @@ use Rattle.un_defs.specs.declared.walk.Mode.{Mode}
 use Rattle.un_defs.specs.declared.walk.Barriers.{Barriers}
 use Rattle.un_defs.specs.Ground.{Ground, entry, ties}
 use Rattle.un_defs.specs.Reach.{goes_by, is_open}
-use Rattle.un_walk.specs.declared.found.Item.{Item}
+use Rattle.un_walk.specs.declared.item.Item.{Item}
 use Rattle.un_walk.specs.declared.found.Chord.{Chord}
 use Rattle.un_walk.specs.declared.found.Found.{Found}
 use Rattle.un_walk.specs.Growth.{has_node}

@@ -1,6 +1,6 @@
 //! The nodes that a walk has found, each once, in the order in which they were found.
 
-ghost use Rattle.std.specs.Prelude.{◌≡◌, ◌<◌, ◌≤◌, ◌+◌, ◌++◌, ◌⊎◌, [], false, length, map, slice_get, Some, None, All, IsTrue, IsSome, IfSome, IfNone, IfOk, OnOk};
+ghost use Rattle.std.specs.Prelude.{◌≡◌, ◌<◌, ◌≤◌, ◌+◌, ◌++◌, ◌∷◌, ◌⊎◌, [], false, length, map, slice_get, Some, None, All, IsTrue, IsSome, IfSome, IfNone, IfOk, OnOk};
 ghost use Rattle.std.specs.Option.{option_copied};
 ghost use Rattle.un_defs.specs.Ground.{Ground, entry};
 ghost use Rattle.std.specs.List.Sorted.{IsPermutation, IsSorted};
@@ -9,39 +9,20 @@ ghost use Rattle.un_walk.specs.Growth.{has_node, with_node};
 ghost use Rattle.un_walk.specs.Seen.{spot_of, nodes_of, HaveEntries};
 ghost use Rattle.un_walk.specs.Site.{IsSite};
 ghost use Rattle.un_walk.specs.Traced.{chords, IsOrigin, IsStart, chord_if, IsFoundFrom, AddsNode, AddsChord, AddsNothing, Adds};
-ghost use Rattle.un_walk.specs.Found.{seens, nodes, IsPlaceIn, IsNumberOf, IsWithoutNumber, IsUnmarked, IsInside, IsMarkedAt, WasMarkedAt, IsItemOver, IsFoundOver};
+ghost use Rattle.un_walk.specs.Found.{seens, nodes, IsPlaceIn, IsNumberOf, IsWithoutNumber, IsItemOver, IsFoundOver};
 
+use crate::item::{Item, PackedItem, narrow};
 use crate::points::Points;
 use crate::ranked::nearly_sorted;
 use crate::seen::{Seen, sort_by_node};
 use crate::site::{Site, looked_up};
 use crate::strays::Strays;
 use crate::traversal::is_same_point;
-use smallvec::SmallVec;
+use crate::visits::Visits;
 use std::alloc::{AllocError, Global};
 use un_defs::{Ground, Node, PackedTie};
 use un_geom::Point;
 use un_steps::Steps;
-
-/// A mark for each entry of a star: 0, or where its node was found, the node's place in the list and 1. Few stars have more than eight entries.
-pub(crate) type Marks = SmallVec<usize, 8>;
-
-/// What the ground has at a point, and which nodes there were found.
-#[derive(Drop)]
-pub(crate) struct Visited<'a> {
-    pub(crate) site: Site<'a>,
-    pub(crate) marks: Marks,
-}
-
-/// A found node with its entry, the number of its point, and the place of the node from which it was found, with the link that led to it. A
-/// start has no link, and its own place.
-#[derive(Clone, Copy)]
-pub(crate) struct Item<'a> {
-    pub(crate) seen: Seen<'a>,
-    pub(crate) number: usize,
-    pub(crate) from: usize,
-    pub(crate) via: Option<&'a PackedTie>,
-}
 
 /// How a node was found: from the node at a place, by a link.
 #[derive(Clone, Copy)]
@@ -63,11 +44,24 @@ pub struct Chord<'a> {
 pub struct Found<'a> {
     pub(crate) points: Points,
     /// By the numbers of the points.
-    pub(crate) visited: Vec<Visited<'a>>,
+    pub(crate) visited: Visits<'a>,
     /// The nodes without an entry, which have no mark.
     pub(crate) strays: Strays,
-    pub(crate) items: Vec<Item<'a>>,
+    pub(crate) items: Vec<PackedItem<'a>>,
     pub(crate) chords: Vec<Chord<'a>>,
+}
+
+// Adds a node at the end. Where there is no room, it is made for four times as many nodes, since each growth copies all.
+#[inline(always)]
+fn push<'a>(items: &mut Vec<PackedItem<'a>>, item: Item<'a>) -> Result<(), AllocError>
+    ensures { OnOk result (items.new.items ≡ items.old.items ++ item.entry ∷ []) }
+{
+    let count = items.len();
+    if count == items.capacity() {
+        items.reserve(count.saturating_mul(3))?;
+    }
+    items.push(PackedItem::new(item)?)?;
+    Ok(())
 }
 
 fn is_same_node(a: Node, b: Node) -> bool
@@ -76,41 +70,10 @@ fn is_same_node(a: Node, b: Node) -> bool
     a == b
 }
 
-// What the ground has at the point, where no node was found yet.
-fn unmarked<'a, G: Ground, L>(
-    alloc: Global,
-    over: &'a G,
-    at: Point,
-    steps: &mut Steps<L>,
-) -> Result<Visited<'a>, AllocError>
-    ensures unmarked { IfOk result (IsUnmarked (G.stars_and_areas over.now) at) }
-    ensures once { steps.new ≤ steps.old + 1 }
-    ensures never_falls { steps.old ≤ steps.new }
-{
-    let site = looked_up(over, at, steps);
-    let marks = SmallVec::from_elem(alloc, 0, site.entry_count())?;
-    Ok(Visited { site, marks })
-}
-
-// Puts a mark at the entry of a star, unless it has one. The mark that was there, which is 0 for none.
-#[inline(always)]
-fn put_mark(visited: &mut [Visited], number: usize, place: usize, mark: usize) -> usize
-    requires { IsInside visited.old number place }
-    ensures new { result ≡ 0 → IsMarkedAt visited.old visited.new number place mark }
-    ensures old { 0 < result → (visited.new ≡ visited.old)
-        × WasMarkedAt visited.old number place result }
-{
-    let old = visited[number].marks[place];
-    if old == 0 {
-        visited[number].marks[place] = mark;
-    }
-    old
-}
-
-fn nodes_in(alloc: Global, items: &[Item]) -> Result<Vec<Node>, AllocError>
+fn nodes_in(alloc: Global, items: &[PackedItem]) -> Result<Vec<Node>, AllocError>
     ensures { IfOk result (λ list. list.items ≡ map (λ i. i.seen.node) items.now) }
 {
-    items.iter().map(|item| item.seen.node).collect(alloc)
+    items.iter().map(|item| item.node()).collect(alloc)
 }
 
 impl<'a> Found<'a> {
@@ -121,7 +84,7 @@ impl<'a> Found<'a> {
     {
         Found {
             points: Points::new(alloc),
-            visited: Vec::new(alloc),
+            visited: Visits::new(alloc),
             strays: Strays::new(alloc),
             items: Vec::new(alloc),
             chords: Vec::new(alloc),
@@ -142,7 +105,7 @@ impl<'a> Found<'a> {
         ensures node { slice_get (nodes self.now) place ≡ Some result.node }
         ensures entry { spot_of result ≡ entry (G.stars_and_areas _over.now) result.node }
     {
-        self.items[place].seen
+        self.items[place].seen()
     }
 
     /// The node at a place with its entry, and what the ground has at its point. The ground is there for the contract alone.
@@ -154,8 +117,8 @@ impl<'a> Found<'a> {
         ensures site { IsSite (G.stars_and_areas _over.now) result.1 }
         ensures at { result.1.at ≡ result.0.node.at }
     {
-        let item = self.items[place];
-        (item.seen, self.visited[item.number].site)
+        let item = &self.items[place];
+        (item.seen(), self.visited.site(item.number()))
     }
 
     /// How the node at a place was found, unless it is a start.
@@ -164,10 +127,10 @@ impl<'a> Found<'a> {
         ensures some { IfSome result (λ o. IsOrigin self.now o.place place o.tie.now) }
         ensures none { IfNone result (IsStart self.now place) }
     {
-        let item = self.items[place];
-        let tie = item.via?;
+        let item = &self.items[place];
+        let tie = item.via()?;
         Some(Origin {
-            place: item.from,
+            place: item.from(),
             tie,
         })
     }
@@ -214,7 +177,9 @@ impl<'a> Found<'a> {
         ensures from { IsTrue result → IsFoundFrom self.now place node }
     {
         match self.items.get(place) {
-            Some(item) if item.via.is_some() => is_same_node(self.items[item.from].seen.node, node),
+            Some(item) if item.via().is_some() => {
+                is_same_node(self.items[item.from()].node(), node)
+            }
             _ => false,
         }
     }
@@ -264,9 +229,9 @@ impl<'a> Found<'a> {
         if number < count {
             return Ok(number);
         }
-        let visited = unmarked(alloc, over, at, steps)?;
-        self.chords.reserve(visited.site.links_away())?;
-        self.visited.push(visited)?;
+        let site = looked_up(over, at, steps);
+        self.chords.reserve(site.links_away())?;
+        self.visited.push(site)?;
         Ok(number)
     }
 
@@ -290,7 +255,7 @@ impl<'a> Found<'a> {
         ensures never_falls { steps.old ≤ steps.new }
     {
         match self.items.get(from) {
-            Some(item) if is_same_point(item.seen.node.at, at) => Ok(item.number),
+            Some(item) if is_same_point(item.at(), at) => Ok(item.number()),
             _ => self.number(alloc, over, at, steps),
         }
     }
@@ -312,14 +277,11 @@ impl<'a> Found<'a> {
             (AddsNode self.old self.new item.entry.seen.node item.entry.from item.entry.via
             ⊎ AddsChord self.old self.new item.entry.seen.node item.entry.from item.entry.via) }
     {
-        let mark = self.items.len() + 1;
-        let old = put_mark(self.visited.as_mut_slice(), item.number, place, mark);
+        let mark = narrow(self.items.len() + 1)?;
+        let old = self.visited.put_mark(item.number, place, mark);
         match old.checked_sub(1) {
             Some(there) => self.add_chord(item.from, there, item.via),
-            None => {
-                self.items.push(item)?;
-                Ok(())
-            }
+            None => push(&mut self.items, item),
         }
     }
 
@@ -336,7 +298,7 @@ impl<'a> Found<'a> {
             ⊎ AddsNothing (G.stars_and_areas _over.now) self.old self.new item.entry.seen.node item.entry.from) }
     {
         if self.strays.add(item.seen.node)? {
-            self.items.push(item)?;
+            push(&mut self.items, item)?;
         }
         Ok(())
     }
@@ -367,7 +329,7 @@ impl<'a> Found<'a> {
             return Ok(());
         }
         let number = self.number_from(alloc, over, node.at, from, steps)?;
-        let site = self.visited[number].site;
+        let site = self.visited.site(number);
         match site.place(node.port) {
             Some(place) => {
                 let spot = site.spot_at(place);

@@ -16,9 +16,9 @@
 //! [`traversal::follow`]). When it has taken all that were found, it adds the next start, unless that was reached from the starts before.
 //!
 //! Points at which a node was found have numbers ([`points::Points`]), and for each the list keeps what the ground has there, the star and
-//! the least dirty area ([`site::Site`]), and a mark for each entry of the star: the place of its node in the list, if it was found. So the
-//! mark of its entry tells whether a node is in the list, and where; the few nodes without an entry are kept in a set of their own
-//! ([`strays::Strays`]). Most links stay at a point, and lead to a node whose point's number is known. Of the others, most lead to where their
+//! the least dirty area ([`site::Site`]), and a mark for each entry of the star: the place of its node in the list, if it was found
+//! ([`visits::Visits`]). So the mark of its entry tells whether a node is in the list, and where; the few nodes without an entry are kept in a
+//! set of their own ([`strays::Strays`]). Most links stay at a point, and lead to a node whose point's number is known. Of the others, most lead to where their
 //! node was found from: the list remembers that place for each node, and such a link needs no look-up at all. The links of a star are read when
 //! the walk first comes to its point, all in one loop ([`site::Site::links_away`]), since those that no cache holds are fetched side by side then.
 //!
@@ -51,19 +51,21 @@
 //! a search among the entries of the star to which it leads, save those back to the node from which it was found. A link to another point
 //! takes one look-up in a hash table of points before. Only where a tier is asked for and a path leads to another point is one more star
 //! looked up. The links of each star to which the walk comes are read once more than it goes by them. Sorting the nodes, where that is asked
-//! for, takes n log n comparisons.
+//! for, takes n log n comparisons. A found node is kept in 64 bytes ([`item::PackedItem`]), a point in 56, and a mark in four.
 #![tactic(auto)]
 
 mod dirt;
 mod entries;
 pub mod found;
 mod hasher;
+mod item;
 mod points;
 mod ranked;
 pub mod seen;
 mod site;
 mod strays;
 mod traversal;
+mod visits;
 pub mod walk;
 
 pub use found::{Chord, Found, Origin};

@@ -1,11 +1,11 @@
-use Rattle.std.proofs.Common.{◌≡◌, ℕ, ◌+◌, ◌≤◌, length, get_or, slice_get, Some, Result, Ok, Err, OnOk, inl, inr, sym, ap, subst, ◌∙◌, arith}
-use Rattle.std.proofs.lemmas.Option.{slice_get-get_or}
+use Rattle.std.proofs.Common.{◌≡◌, ℕ, ◌+◌, ◌≤◌, length, slice_get, Result, Ok, Err, OnOk, inl, inr, sym, ap, subst, ◌∙◌, arith}
 use Rattle.un_defs.specs.declared.port.Node.{Node}
 use Rattle.un_defs.specs.declared.star.Spot.{Spot}
 use Rattle.un_defs.specs.declared.star.Star.{Star}
 use Rattle.un_defs.specs.Orders.{same_port}
 use Rattle.un_defs.specs.Ground.{Ground}
-use Rattle.un_walk.specs.declared.found.Visited.{Visited}
+use Rattle.un_walk.specs.declared.site.Site.{Site}
+use Rattle.un_walk.specs.Visits.{IsSiteAt}
 use Rattle.un_walk.specs.declared.found.Found.{Found}
 use Rattle.un_walk.specs.Site.{star_of}
 use Rattle.un_walk.specs.Found.{seens_of, nodes, IsNumberOf, place_in, IsPlaceIn, IsFoundOver}
@@ -21,17 +21,20 @@ on_ok (Ok x) P Q f h = f h
 on_ok (Err e) P Q f h = h
 
 -- the star that is read is the one at the node's point
-star_is : (G : Ground) (f : Found) (is : IsFoundOver G f) (n : Node) (number : ℕ) (v : Visited) → IsNumberOf f.points n.at number → v ≡ get_or f.visited.items number v → star_of v.site ≡ G.stars n.at
-star_is G f is n number v h e =
-    star_here G f is n number v h (slice_get-get_or f.visited.items number v (visited_within G f is n.at number h) ∙ ap (λ (x : Visited). Some x) (sym e))
+star_is : (G : Ground) (f : Found) (is : IsFoundOver G f) (n : Node) (number : ℕ) (s : Site) → IsNumberOf f.points n.at number → IsSiteAt f.visited number s → star_of s ≡ G.stars n.at
+star_is G f is n number s h there = ap star_of (sym there.2) ∙ star_here G f is n number there.0 h there.1
+
+pub site-site-requires : goal.site-site-requires
+site-site-requires g c =
+    visited_within (g.G.Ground.stars_and_areas c.args.over.now) c.number_from.new.self c.in_ok-number.ensures.over c.args.node.at c.in_ok-number.number c.in_ok-number.ensures.number
 
 pub add_marked-requires-clause-item : goal.add_marked-requires-clause-item
 add_marked-requires-clause-item g c =
     let G : Ground = g.G.Ground.stars_and_areas c.args.over.now in
     let f : Found = c.number_from.new.self in
     let n : Node = c.args.node in
-    let star : star_of c.index.result.now.site ≡ G.stars n.at = star_is G f c.in_ok-number.ensures.over n c.in_ok-number.number c.index.result.now c.in_ok-number.ensures.number c.index.ensures in
-    let place : IsPlaceIn (star_of c.index.result.now.site) n.port c.in-Some.place = position_some (λ (s : Spot). same_port s.port n.port) (star_of c.index.result.now.site).spots c.in-Some.place (sym c.place.ensures ∙ c.in-Some.is) in
+    let star : star_of c.site-site.result ≡ G.stars n.at = star_is G f c.in_ok-number.ensures.over n c.in_ok-number.number c.site-site.result c.in_ok-number.ensures.number c.site-site.ensures in
+    let place : IsPlaceIn (star_of c.site-site.result) n.port c.in-Some.place = position_some (λ (s : Spot). same_port s.port n.port) (star_of c.site-site.result).spots c.in-Some.place (sym c.place.ensures ∙ c.in-Some.is) in
     record {
       number = c.in_ok-number.ensures.number;
       entry = c.spot_at-spot.ensures ∙ ap (λ (s : Star). slice_get s.spots c.in-Some.place) star ∙ sym (entry_at G n c.in-Some.place (subst (λ s. IsPlaceIn s n.port c.in-Some.place) star place));
@@ -43,29 +46,29 @@ add_marked-requires-clause-place g c =
     let G : Ground = g.G.Ground.stars_and_areas c.args.over.now in
     let f : Found = c.number_from.new.self in
     let n : Node = c.args.node in
-    let star : star_of c.index.result.now.site ≡ G.stars n.at = star_is G f c.in_ok-number.ensures.over n c.in_ok-number.number c.index.result.now c.in_ok-number.ensures.number c.index.ensures in
+    let star : star_of c.site-site.result ≡ G.stars n.at = star_is G f c.in_ok-number.ensures.over n c.in_ok-number.number c.site-site.result c.in_ok-number.ensures.number c.site-site.ensures in
     subst (λ s. IsPlaceIn s n.port c.in-Some.place) star
-    (position_some (λ (s : Spot). same_port s.port n.port) (star_of c.index.result.now.site).spots c.in-Some.place (sym c.place.ensures ∙ c.in-Some.is))
+    (position_some (λ (s : Spot). same_port s.port n.port) (star_of c.site-site.result).spots c.in-Some.place (sym c.place.ensures ∙ c.in-Some.is))
 
 pub add_stray-requires-clause-none : goal.add_stray-requires-clause-none
 add_stray-requires-clause-none g c =
     let G : Ground = g.G.Ground.stars_and_areas c.args.over.now in
     let f : Found = c.number_from.new.self in
     let n : Node = c.args.node in
-    let star : star_of c.index.result.now.site ≡ G.stars n.at = star_is G f c.in_ok-number.ensures.over n c.in_ok-number.number c.index.result.now c.in_ok-number.ensures.number c.index.ensures in
+    let star : star_of c.site-site.result ≡ G.stars n.at = star_is G f c.in_ok-number.ensures.over n c.in_ok-number.number c.site-site.result c.in_ok-number.ensures.number c.site-site.ensures in
     no_entry_at G n (subst (λ (s : Star). length s.spots ≤ place_in s n.port) star
-    (position_none (λ (s : Spot). same_port s.port n.port) (star_of c.index.result.now.site).spots (sym c.place.ensures ∙ c.in-None.is)))
+    (position_none (λ (s : Spot). same_port s.port n.port) (star_of c.site-site.result).spots (sym c.place.ensures ∙ c.in-None.is)))
 
 pub add_stray-requires-clause-item : goal.add_stray-requires-clause-item
 add_stray-requires-clause-item g c =
     let G : Ground = g.G.Ground.stars_and_areas c.args.over.now in
     let f : Found = c.number_from.new.self in
     let n : Node = c.args.node in
-    let star : star_of c.index.result.now.site ≡ G.stars n.at = star_is G f c.in_ok-number.ensures.over n c.in_ok-number.number c.index.result.now c.in_ok-number.ensures.number c.index.ensures in
+    let star : star_of c.site-site.result ≡ G.stars n.at = star_is G f c.in_ok-number.ensures.over n c.in_ok-number.number c.site-site.result c.in_ok-number.ensures.number c.site-site.ensures in
     record {
       number = c.in_ok-number.ensures.number;
       entry = sym (no_entry_at G n (subst (λ (s : Star). length s.spots ≤ place_in s n.port) star
-          (position_none (λ (s : Spot). same_port s.port n.port) (star_of c.index.result.now.site).spots (sym c.place.ensures ∙ c.in-None.is))));
+          (position_none (λ (s : Spot). same_port s.port n.port) (star_of c.site-site.result).spots (sym c.place.ensures ∙ c.in-None.is))));
       from = omega (arith, c.requires.from, ap (λ l. length l.items) c.in_ok-number.ensures.items, count_nodes c.args.self.now);
     }
 

@@ -1,12 +1,11 @@
-use Rattle.std.proofs.Common.{◌≡◌, ◌∙◌, ℕ, zero, suc, ◌+◌, ◌-◌, ◌≤◌, length, Result, Ok, Err, OnOk, SomeIff, inr, refl, sym, ap, subst, arith}
-use Rattle.std.proofs.lemmas.List.{length-set}
+use Rattle.std.proofs.Common.{◌≡◌, ◌∙◌, ℕ, zero, suc, ◌+◌, ◌-◌, ◌≤◌, Result, Ok, Err, OnOk, SomeIff, inr, refl, sym, ap, subst, arith}
 use Rattle.un_defs.specs.declared.port.Node.{Node}
 use Rattle.un_defs.specs.Ground.{Ground}
 use Rattle.un_walk.specs.declared.found.Found.{Found}
 use Rattle.un_walk.specs.Seen.{nodes_of}
-use Rattle.un_walk.specs.Found.{IsInside, IsMarkedAt, WasMarkedAt, seens_of, nodes}
+use Rattle.un_walk.specs.Visits.{IsMarkedAt, WasMarkedAt}
+use Rattle.un_walk.specs.Found.{seens_of, nodes}
 use Rattle.un_walk.proofs.FoundOver.{marked_inside, marked_node, marked_new, marked_twice, marked_place, nodes_end_items, same_found, with_new, with_old}
-use Rattle.un_walk.proofs.Marking.{with_items_all}
 use Rattle.un_walk.proofs.found.Found.add_marked.Goals as goal
 use Rattle.un_walk.proofs.found.Found.add_marked.Goals.{In-Some, In-None}
 
@@ -24,17 +23,13 @@ is_none (suc k) h = absurd (h (omega arith))
 
 pub put_mark-old-requires : goal.put_mark-old-requires
 put_mark-old-requires g c =
-    let G = g.G.Ground.stars_and_areas c.args._over.now in
-    subst (λ vs. IsInside vs c.args.item.number c.args.place) (sym c.as_mut_slice.ensures.value)
-    (marked_inside G c.args.self.now c.requires.over c.args.item.seen.node c.args.item.number c.args.place c.requires.item.number c.requires.place)
+    marked_inside (g.G.Ground.stars_and_areas c.args._over.now) c.args.self.now c.requires.over c.args.item.seen.node c.args.item.number c.args.place c.requires.item.number c.requires.place
 
 pub returns-in-Some-clause-over : goal.returns-in-Some-clause-over
 returns-in-Some-clause-over g c =
     let f : Found = c.args.self.now in
     let facts = subst (λ o. SomeIff o (1 ≤ c.put_mark-old.result) (c.put_mark-old.result - 1)) c.in-Some.is c.checked_sub.ensures in
-    let same : c.put_mark-old.new.visited ≡ f.visited.items = (c.put_mark-old.ensures.old facts.0).0 ∙ c.as_mut_slice.ensures.value in
-    let visited : c.add_chord.new.self.visited.items ≡ f.visited.items =
-    ap (λ v. v.items) c.add_chord.ensures.visited ∙ with_items_all f.visited c.put_mark-old.new.visited (ap length same) ∙ same in
+    let visited : c.add_chord.new.self.visited ≡ f.visited = c.add_chord.ensures.visited ∙ (c.put_mark-old.ensures.old facts.0).0 in
     always c.add_chord.result _
     (same_found (g.G.Ground.stars_and_areas c.args._over.now) f c.add_chord.new.self c.requires.over c.add_chord.ensures.points visited c.add_chord.ensures.strays (ap (λ v. v.items) c.add_chord.ensures.items))
 
@@ -44,13 +39,11 @@ returns-in-Some-clause-nodes g c =
     let f : Found = c.args.self.now in
     let n : Node = c.args.item.seen.node in
     let facts = subst (λ o. SomeIff o (1 ≤ c.put_mark-old.result) (c.put_mark-old.result - 1)) c.in-Some.is c.checked_sub.ensures in
-    let was : WasMarkedAt c.as_mut_slice.result.now c.args.item.number c.args.place c.put_mark-old.result = (c.put_mark-old.ensures.old facts.0).1 in
-    let was_f : WasMarkedAt f.visited.items c.args.item.number c.args.place (c.in-Some.there + 1) =
-    subst (λ vs. WasMarkedAt vs c.args.item.number c.args.place (c.in-Some.there + 1)) c.as_mut_slice.ensures.value
-    (subst (WasMarkedAt c.as_mut_slice.result.now c.args.item.number c.args.place) (omega (arith, facts.0, facts.1)) was) in
+    let was : WasMarkedAt f.visited c.args.item.number c.args.place (c.in-Some.there + 1) =
+    subst (WasMarkedAt f.visited c.args.item.number c.args.place) (omega (arith, facts.0, facts.1)) (c.put_mark-old.ensures.old facts.0).1 in
     always c.add_chord.result _
     (ap (λ v. nodes_of (seens_of v.items)) c.add_chord.ensures.items
-    ∙ sym (with_old (nodes f) n (marked_twice G f c.requires.over n c.args.item.number c.args.place c.in-Some.there c.requires.item.number c.requires.place was_f)))
+    ∙ sym (with_old (nodes f) n (marked_twice G f c.requires.over n c.args.item.number c.args.place c.in-Some.there c.requires.item.number c.requires.place was)))
 
 pub returns-in-Some-clause-adds : goal.returns-in-Some-clause-adds
 returns-in-Some-clause-adds g c =
@@ -58,35 +51,30 @@ returns-in-Some-clause-adds g c =
     let f : Found = c.args.self.now in
     let n : Node = c.args.item.seen.node in
     let facts = subst (λ o. SomeIff o (1 ≤ c.put_mark-old.result) (c.put_mark-old.result - 1)) c.in-Some.is c.checked_sub.ensures in
-    let was : WasMarkedAt c.as_mut_slice.result.now c.args.item.number c.args.place c.put_mark-old.result = (c.put_mark-old.ensures.old facts.0).1 in
-    let was_f : WasMarkedAt f.visited.items c.args.item.number c.args.place (c.in-Some.there + 1) =
-    subst (λ vs. WasMarkedAt vs c.args.item.number c.args.place (c.in-Some.there + 1)) c.as_mut_slice.ensures.value
-    (subst (WasMarkedAt c.as_mut_slice.result.now c.args.item.number c.args.place) (omega (arith, facts.0, facts.1)) was) in
+    let was : WasMarkedAt f.visited c.args.item.number c.args.place (c.in-Some.there + 1) =
+    subst (WasMarkedAt f.visited c.args.item.number c.args.place) (omega (arith, facts.0, facts.1)) (c.put_mark-old.ensures.old facts.0).1 in
     on_ok c.add_chord.result _ _ (λ more. inr (record {
       place = c.in-Some.there;
-      at = marked_place G f c.requires.over n c.args.item.number c.args.place c.in-Some.there c.requires.item.number c.requires.place was_f;
+      at = marked_place G f c.requires.over n c.args.item.number c.args.place c.in-Some.there c.requires.item.number c.requires.place was;
       items = ap (λ v. v.items) c.add_chord.ensures.items;
       chords = more;
     })) c.add_chord.ensures.chords
 
-pub returns-in_ok-push-in-None-clause-over : goal.returns-in_ok-push-in-None-clause-over
-returns-in_ok-push-in-None-clause-over g c =
+pub returns-in-None-clause-over : goal.returns-in-None-clause-over
+returns-in-None-clause-over g c =
     let G : Ground = g.G.Ground.stars_and_areas c.args._over.now in
     let f : Found = c.args.self.now in
     let none = subst (λ o. SomeIff o (1 ≤ c.put_mark-old.result) (c.put_mark-old.result - 1)) c.in-None.is c.checked_sub.ensures in
-    let mark : IsMarkedAt f.visited.items c.put_mark-old.new.visited c.args.item.number c.args.place (c.len-mark.result + 1) =
-    subst (λ vs. IsMarkedAt vs c.put_mark-old.new.visited c.args.item.number c.args.place (c.len-mark.result + 1)) c.as_mut_slice.ensures.value (c.put_mark-old.ensures.new (is_none c.put_mark-old.result none)) in
-    let long : length c.put_mark-old.new.visited ≡ length f.visited.items = ap length mark.is ∙ length-set f.visited.items c.args.item.number mark.after in
-    (marked_node G f c.requires.over c.args.item c.args.place c.requires.item c.requires.place c.put_mark-old.new.visited (c.len-mark.result + 1) (ap (λ k. k + 1) (c.len-mark.ensures ∙ f.items.ok.0)) mark _
-    refl (with_items_all f.visited c.put_mark-old.new.visited long) refl c.in_ok-push-in-None.ensures.items).0
+    let mark : IsMarkedAt f.visited c.put_mark-old.new.self c.args.item.number c.args.place c.in_ok-mark.mark = c.put_mark-old.ensures.new (is_none c.put_mark-old.result none) in
+    on_ok c.push.result _ _ (λ more. (marked_node G f c.requires.over c.args.item c.args.place c.requires.item c.requires.place c.put_mark-old.new.self c.in_ok-mark.mark
+    (c.in_ok-mark.ensures ∙ ap (λ k. k + 1) (c.len.ensures ∙ f.items.ok.0)) mark _ refl refl refl more).0) c.push.ensures
 
-pub returns-in_ok-push-in-None-clause-nodes : goal.returns-in_ok-push-in-None-clause-nodes
-returns-in_ok-push-in-None-clause-nodes g c =
+pub returns-in-None-clause-nodes : goal.returns-in-None-clause-nodes
+returns-in-None-clause-nodes g c =
     let G : Ground = g.G.Ground.stars_and_areas c.args._over.now in
     let f : Found = c.args.self.now in
     let n : Node = c.args.item.seen.node in
     let none = subst (λ o. SomeIff o (1 ≤ c.put_mark-old.result) (c.put_mark-old.result - 1)) c.in-None.is c.checked_sub.ensures in
-    let mark : IsMarkedAt f.visited.items c.put_mark-old.new.visited c.args.item.number c.args.place (c.len-mark.result + 1) =
-    subst (λ vs. IsMarkedAt vs c.put_mark-old.new.visited c.args.item.number c.args.place (c.len-mark.result + 1)) c.as_mut_slice.ensures.value (c.put_mark-old.ensures.new (is_none c.put_mark-old.result none)) in
-    ap (λ l. nodes_of (seens_of l)) c.in_ok-push-in-None.ensures.items ∙ nodes_end_items f.items.items c.args.item
-    ∙ sym (with_new (nodes f) n (marked_new G f c.requires.over n c.args.item.number c.args.place (c.len-mark.result + 1) c.requires.item.number c.requires.place c.put_mark-old.new.visited mark))
+    let mark : IsMarkedAt f.visited c.put_mark-old.new.self c.args.item.number c.args.place c.in_ok-mark.mark = c.put_mark-old.ensures.new (is_none c.put_mark-old.result none) in
+    on_ok c.push.result _ _ (λ more. ap (λ l. nodes_of (seens_of l)) more ∙ nodes_end_items f.items.items c.args.item
+    ∙ sym (with_new (nodes f) n (marked_new G f c.requires.over n c.args.item.number c.args.place c.in_ok-mark.mark c.requires.item.number c.requires.place c.put_mark-old.new.self mark))) c.push.ensures

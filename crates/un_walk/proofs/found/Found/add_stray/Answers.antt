@@ -18,13 +18,13 @@ on false e = sym e
 pub returns-in_ok-push-clause-over : goal.returns-in_ok-push-clause-over
 returns-in_ok-push-clause-over g c =
     (stray_node (g.G.Ground.stars_and_areas c.args._over.now) c.args.self.now c.requires.over c.args.item c.requires.item c.requires.none
-    (off _ (sym c.in_ok-add.ensures.added ∙ c.if-branch.true)) _ refl refl c.in_ok-add.ensures.nodes c.in_ok-push.ensures.items).0
+    (off _ (sym c.in_ok-add.ensures.added ∙ c.if-branch.true)) _ refl refl c.in_ok-add.ensures.nodes c.in_ok-push.ensures).0
 
 pub returns-in_ok-push-clause-nodes : goal.returns-in_ok-push-clause-nodes
 returns-in_ok-push-clause-nodes g c =
     let f : Found = c.args.self.now in
     let n : Node = c.args.item.seen.node in
-    ap (λ l. nodes_of (seens_of l)) c.in_ok-push.ensures.items ∙ nodes_end_items f.items.items c.args.item
+    ap (λ l. nodes_of (seens_of l)) c.in_ok-push.ensures ∙ nodes_end_items f.items.items c.args.item
     ∙ sym (with_new (nodes f) n (sym (c.requires.over.strays n c.requires.none) ∙ off (has_node f.strays n) (sym c.in_ok-add.ensures.added ∙ c.if-branch.true)))
 
 pub returns-else-branch-clause-over : goal.returns-else-branch-clause-over
