@@ -10,7 +10,7 @@ use Rattle.un_walk.proofs.Entered.{head_of, tail_of, barrier_by}
 
 module _ (G : Ground) (B : Barriers) (with_barriers : Bool) where
   -- the test by the entry is the one over the ground
-  same_test : (s : Seen) → spot_of s ≡ entry G s.node → is_in_result B with_barriers s ≡ (with_barriers || not (is_barrier G B s.node))
+  pub same_test : (s : Seen) → spot_of s ≡ entry G s.node → is_in_result B with_barriers s ≡ (with_barriers || not (is_barrier G B s.node))
   same_test s e = ap (λ b. with_barriers || not b) (barrier_by G B s e)
 
   pub in_result_nodes : (seen : List Seen) → HaveEntries G seen → nodes_of (filter (is_in_result B with_barriers) seen) ≡ result_nodes G B with_barriers (nodes_of seen)

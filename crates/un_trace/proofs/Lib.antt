@@ -1,4 +1,5 @@
 pub mod Runs
+pub mod PartsBy
 pub mod Rise
 pub mod SeenParts
 pub mod Turn
@@ -10,3 +11,5 @@ pub mod Answered
 pub mod Whole
 pub mod Controlling
 pub mod InResult
+pub mod PortKeys
+pub mod PortsAlone

@@ -3,3 +3,4 @@ pub mod Included
 pub mod Functions
 pub mod Controlled
 pub mod TraceReply
+pub mod Ports

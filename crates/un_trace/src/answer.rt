@@ -1,23 +1,29 @@
 //! The trace itself.
 
-ghost use Rattle.std.specs.Prelude.{◌≡◌, ◌≤◌, ◌+◌, flat_map, None, IsSome, IfOk, OnOk, if◌then◌else◌};
+ghost use Rattle.std.specs.Prelude.{◌≡◌, ◌≤◌, ◌+◌, false, List, [], flat_map, None, IsSome, IfOk, IfSome, OnOk, if◌then◌else◌};
 ghost use Rattle.std.specs.Ordering.{nat_cmp};
+ghost use Rattle.std.specs.List.{list_any};
 ghost use Rattle.std.specs.List.Sorted.{IsStrictlySortedBy};
+ghost use Rattle.un_defs.specs.declared.port.Node.{Node};
+ghost use Rattle.un_defs.specs.Ground.{Ground};
 ghost use Rattle.un_defs.specs.Orders.{node_cmp, rising};
+ghost use Rattle.un_walk.specs.Found.{nodes, IsFoundOver};
 ghost use Rattle.un_trace.specs.Seen.{spots_of, nodes_of, HaveEntries};
 ghost use Rattle.un_trace.specs.Included.{ids_of};
-ghost use Rattle.un_trace.specs.TraceReply.{OnReachCount, IsAnswerable, IsAnswer, mode_of, where_asked, result_of, nodes_in_result, lists_controllers, controllers_reply, result_reply, clean_reply};
+ghost use Rattle.un_trace.specs.Ports.{includes_any, reads_entries, tells_entries};
+ghost use Rattle.un_trace.specs.TraceReply.{OnReachCount, IsAnswerable, IsAnswer, mode_of, where_asked, parts, result_of, nodes_in_result, lists_controllers, controllers_reply, result_reply, clean_reply};
 
 use crate::controllers::controllers_of;
 use crate::features::{Features, features_of};
 use crate::functions::totals;
 use crate::included::{Inclusion, included};
 use crate::nodes::seen_in_result;
+use crate::ports::parts_found;
 use std::alloc::{AllocError, Global};
-use un_ask::{Parts, Reply, ResultReply, TraceKind, TypedAsk};
+use un_ask::{Func, Include, Part, Parts, Reply, ResultReply, TraceKind, TypedAsk};
 use un_defs::{Barriers, Dirt, Ground, Ids, Mode};
 use un_steps::Steps;
-use un_walk::{Seen, reach_seen};
+use un_walk::{Found, Seen, reach_found};
 
 fn mode_of(kind: TraceKind) -> Mode
     ensures { result ≡ mode_of kind }
@@ -53,7 +59,7 @@ fn where_asked(
     if asked {
         included(alloc, seen, inclusion)
     } else {
-        Ok(Ids::new(Vec::new(alloc)))
+        Ok(no_ids(alloc))
     }
 }
 
@@ -155,6 +161,112 @@ fn clean_reply<G: Ground>(
     }
 }
 
+/// Whether the function is taken over the entries of features.
+fn reads_entries(function: Func) -> bool
+    ensures { result ≡ reads_entries function }
+{
+    match function {
+        Func::Count => false,
+        Func::Sum(_) | Func::Least(_) | Func::Greatest(_) => true,
+    }
+}
+
+fn any_reads_entries(functions: &[Func]) -> bool
+    ensures { result ≡ list_any reads_entries functions.now }
+{
+    functions.iter().any(|function| reads_entries(*function))
+}
+
+fn includes_any(include: Include) -> bool
+    ensures { result ≡ includes_any include }
+{
+    include.containers || include.content || include.structures
+}
+
+/// Whether the answer tells what the entries of the result nodes have, and not their ports alone.
+fn tells_entries(ask: &TypedAsk) -> bool
+    ensures { result ≡ tells_entries ask.now }
+{
+    if includes_any(ask.include) {
+        return true;
+    }
+    if lists_controllers(ask.kind) {
+        return true;
+    }
+    any_reads_entries(ask.functions.as_slice())
+}
+
+fn no_ids(alloc: Global) -> Ids
+    ensures { result ≡ [] }
+{
+    Ids::new(Vec::new(alloc))
+}
+
+/// The result with these features, where it tells nothing of entries.
+fn ports_result(
+    alloc: Global,
+    ask: &TypedAsk,
+    features: Vec<Part>,
+) -> Result<ResultReply, AllocError>
+    requires { tells_entries ask.now ≡ false }
+    ensures { IfOk result (λ r. (g : Ground) (ns : List Node) → features.items ≡ parts ns
+        → r ≡ result_of g ask.now ns) }
+{
+    let functions = totals(alloc, &[], features.len(), ask.functions.as_slice())?;
+    let containers = no_ids(alloc);
+    let content = no_ids(alloc);
+    let structures = no_ids(alloc);
+    Ok(ResultReply {
+        containers,
+        content,
+        features: Parts::new(features),
+        functions,
+        kind: ask.kind,
+        structures,
+    })
+}
+
+/// The answer of a trace that found these nodes, where no dirt matters, if their ports alone suffice for it.
+fn ports_reply<G: Ground>(
+    alloc: Global,
+    over: &G,
+    ask: &TypedAsk,
+    found: &Found,
+) -> Result<Option<Reply>, AllocError>
+    requires { IsFoundOver (G.stars_and_areas over.now) found.now }
+    ensures { IfOk result (λ o. IfSome o (λ r. r
+        ≡ clean_reply (G.stars_and_areas over.now) ask.now (rising node_cmp (nodes found.now)))) }
+{
+    if tells_entries(ask) {
+        return Ok(None);
+    }
+    let Some(features) = parts_found(alloc, over, found, &ask.barriers, ask.include.barriers)?
+    else {
+        return Ok(None);
+    };
+    let result = ports_result(alloc, ask, features)?;
+    Ok(Some(Reply::Traced { result, version: 0 }))
+}
+
+/// The answer of a trace that found these nodes, where no dirt matters.
+fn found_reply<G: Ground>(
+    alloc: Global,
+    over: &G,
+    ask: &TypedAsk,
+    found: &Found,
+) -> Result<Reply, AllocError>
+    requires kind { IsAnswerable ask.now.kind ask.now.barriers.tier }
+    requires over { IsFoundOver (G.stars_and_areas over.now) found.now }
+    ensures { IfOk result (λ r. r
+        ≡ clean_reply (G.stars_and_areas over.now) ask.now (rising node_cmp (nodes found.now))) }
+{
+    if let Some(reply) = ports_reply(alloc, over, ask, found)? {
+        return Ok(reply);
+    }
+    let reached = found.sorted(alloc, over)?;
+    clean_reply(alloc, over, ask, reached)
+}
+
 /// Answers a trace of the kinds connected, subnetwork, controllers, upstream and downstream over the ground. For controllers the ask has a
 /// tier.
 ///
@@ -176,7 +288,7 @@ pub fn trace<G: Ground, L>(
     ensures never_falls { steps.old ≤ steps.new }
 {
     let mode = mode_of(ask.kind);
-    let reached = reach_seen(
+    let reached = reach_found(
         alloc,
         over,
         ask.starts.as_slice(),
@@ -186,6 +298,6 @@ pub fn trace<G: Ground, L>(
     )?;
     match dirt_that_matters(&ask.barriers, reached.dirt) {
         Some(dirt) => Ok(Reply::on_dirty_ground(dirt)),
-        None => clean_reply(alloc, over, ask, reached.seen),
+        None => found_reply(alloc, over, ask, &reached.found),
     }
 }

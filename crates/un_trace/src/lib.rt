@@ -11,8 +11,11 @@
 //!
 //! # How it is found
 //!
-//! [`answer::trace`] asks `un_walk` for the reached nodes with their entries, which come rising by port, and for the dirt. It keeps the result
-//! nodes ([`nodes::seen_in_result`]). Since they rise by port, the nodes of a feature stand together: one pass cuts them into runs of one feature ([`features::features_of`]), and each run gives its feature, its numbers and the
+//! [`answer::trace`] asks `un_walk` for the reached nodes and for the dirt. Where the answer tells nothing of entries, it makes one number of
+//! each port of a result node, sorts the numbers and cuts them into runs of one feature ([`ports::parts_found`]).
+//!
+//! Else, or where a feature's id leaves no room for the number of a port, it takes the reached nodes with their entries, rising by port, and
+//! keeps the result nodes ([`nodes::seen_in_result`]). Since they rise by port, the nodes of a feature stand together: one pass cuts them into runs of one feature ([`features::features_of`]), and each run gives its feature, its numbers and the
 //! first entry in it. A number may stand twice in a run, since a port may stand at two points where areas are dirty; it is told once. The
 //! ids of containers, content and structures go into a set that keeps them in order ([`included::included`]). Each function is taken over
 //! the values that the first entries have ([`functions::totals`]). Controllers are put one after another into a rising list
@@ -22,13 +25,14 @@
 //!
 //! Before each run is cut off, the features of the nodes before it are below those of the nodes from there on. So the run is all nodes of
 //! its feature, and its feature goes to the end of the rising list. The nodes of a run rise by number, so leaving out a number that is the
-//! one before it leaves each number once. A list that rises and has exactly the wanted elements is the only such list.
+//! one before it leaves each number once. The numbers that stand for ports rise as the ports do, and the order in which the nodes were found
+//! does not matter for the features with their ports. A list that rises and has exactly the wanted elements is the only such list.
 //!
 //! A sum has room in 128 bits: after n values it lies within n times 2^63 either way, and a list in memory has fewer than 2^63 values.
 //!
 //! # What it costs
 //!
-//! Beside the walk, time that is linear in the result nodes for the features, one step in an ordered set for each id that an entry gives, and a pass over the features for each function. For controllers, a comparison of each with
+//! Beside the walk, where ports alone are told, eight bytes for each reached node, their sort and one pass over them. Else time that is linear in the result nodes for the features, one step in an ordered set for each id that an entry gives, and a pass over the features for each function. For controllers, a comparison of each with
 //! those that are told before it.
 #![tactic(auto)]
 
@@ -38,5 +42,6 @@ mod features;
 mod functions;
 mod included;
 mod nodes;
+mod ports;
 
 pub use answer::trace;

@@ -10,7 +10,7 @@ use Rattle.un_trace.proofs.features.features_of.Goals as goal
 pub add-requires : goal.add-requires
 add-requires c =
     let seen : List Seen = c.args.seen.now in
-    let t = turn seen c.loop-begin.begin c.run_len.result c.index-seen-begin.result (rise_from seen c.requires) c.loop-begin-test.true c.index-seen-begin.is (counted seen c.loop-begin.begin c.run_len.result c.index-seen-begin.result c.index-seen-begin.is c.run_len.ensures) in
+    let t = turn feature_of number_of seen c.loop-begin.begin c.run_len.result c.index-seen-begin.result (rise_from seen c.requires) c.loop-begin-test.true c.index-seen-begin.is (counted feature_of number_of seen c.loop-begin.begin c.run_len.result c.index-seen-begin.result c.index-seen-begin.is c.run_len.ensures) in
     subst (λ l. IsSorted nat_cmp (map number_of l)) (sym t.is_run) t.sorted
 
 pub loop-begin-preserved : goal.loop-begin-preserved
@@ -18,7 +18,7 @@ loop-begin-preserved c =
     let seen : List Seen = c.args.seen.now in
     let k = c.loop-begin.begin in
     let s : Seen = c.index-seen-begin.result in
-    let t = turn seen k c.run_len.result s (rise_from seen c.requires) c.loop-begin-test.true c.index-seen-begin.is (counted seen c.loop-begin.begin c.run_len.result c.index-seen-begin.result c.index-seen-begin.is c.run_len.ensures) in
+    let t = turn feature_of number_of seen k c.run_len.result s (rise_from seen c.requires) c.loop-begin-test.true c.index-seen-begin.is (counted feature_of number_of seen c.loop-begin.begin c.run_len.result c.index-seen-begin.result c.index-seen-begin.is c.run_len.ensures) in
     let more = t.after c.loop-begin.invariant.apart in
     record {
       within = t.within;
@@ -36,7 +36,7 @@ loop-begin-preserved c =
 pub loop-begin-smaller : goal.loop-begin-smaller
 loop-begin-smaller c =
     let seen : List Seen = c.args.seen.now in
-    let t = turn seen c.loop-begin.begin c.run_len.result c.index-seen-begin.result (rise_from seen c.requires) c.loop-begin-test.true c.index-seen-begin.is (counted seen c.loop-begin.begin c.run_len.result c.index-seen-begin.result c.index-seen-begin.is c.run_len.ensures) in
+    let t = turn feature_of number_of seen c.loop-begin.begin c.run_len.result c.index-seen-begin.result (rise_from seen c.requires) c.loop-begin-test.true c.index-seen-begin.is (counted feature_of number_of seen c.loop-begin.begin c.run_len.result c.index-seen-begin.result c.index-seen-begin.is c.run_len.ensures) in
     omega (arith, t.some, t.within)
 
 pub returns-clause-parts : goal.returns-clause-parts
