@@ -1,5 +1,6 @@
 -- Pieces that are put behind one another.
-use Rattle.std.proofs.Common.{◌≡◌, ℕ, ℤ, Bool, true, false, List, [], ◌∷◌, ◌++◌, codes, decimal, ap, sym, refl, append_assoc, append-nil, ◌∙◌}
+use Rattle.std.proofs.Common.{◌≡◌, ℕ, ℤ, Bool, true, false, List, [], ◌∷◌, ◌++◌, ◌+◌, ◌<◌, codes, decimal, ap, sym, refl, append_assoc, append-nil, ◌∙◌}
+use Rattle.std.proofs.lemmas.Fmt.{decimal_digit}
 use Rattle.serde_json.specs.Written.{compact_text, items_text, comma_if}
 use Rattle.json.specs.Print.{quoted}
 use Rattle.serde_json.specs.Data.{Data}
@@ -29,6 +30,10 @@ added_one f start later x rest all out comma more h one two =
 pub printed_one : (start : List ℕ) (later : Bool) (number : ℕ) (rest all : List ℕ) (out : List ℕ) → IsPrintedBut count start later (number ∷ rest) all out
     → IsPrintedBut count start true rest all ((out ++ comma_if later) ++ decimal number)
 printed_one start later number rest all out h = added_one count start later number rest all out (out ++ comma_if later) ((out ++ comma_if later) ++ decimal number) h refl refl
+
+-- a number of one digit
+pub one_digit : (start out : List ℕ) (number : ℕ) → number < 10 → out ≡ start ++ (48 + number) ∷ [] → out ≡ start ++ compact_text (count number)
+one_digit start out number small h = h ∙ ap (λ t. start ++ t) (sym (decimal_digit number small))
 
 -- all are printed
 pub printed_all : {A : Type 0} (f : A → Data) (start : List ℕ) (later : Bool) (all : List A) (out : List ℕ) → IsPrintedBut f start later [] all out

@@ -33,11 +33,34 @@ fn add_text(text: &[u8], out: &mut Vec<u8>) -> Result<(), AllocError>
     out.extend_from_slice(text)
 }
 
-fn add_number(number: u64, out: &mut Vec<u8>) -> Result<(), AllocError>
+// One byte, which needs no call of a function that copies.
+#[inline(always)]
+fn add_byte(byte: u8, out: &mut Vec<u8>) -> Result<(), AllocError>
+    ensures { OnOk result (out.new.items ≡ out.old.items ++ byte ∷ []) }
+{
+    out.push(byte)?;
+    Ok(())
+}
+
+// A number of any length.
+#[inline(never)]
+fn add_digits(number: u64, out: &mut Vec<u8>) -> Result<(), AllocError>
     ensures { OnOk result (out.new.items ≡ out.old.items ++ compact_text (count number)) }
 {
     let mut buffer = Buffer::new();
     add_text(buffer.format(number).as_bytes(), out)
+}
+
+// A number. Nearly all numbers of ports have one digit, which is one byte.
+#[inline(always)]
+#[tactic(auto, using(crate::proofs::Steps::one_digit))]
+fn add_number(number: u64, out: &mut Vec<u8>) -> Result<(), AllocError>
+    ensures { OnOk result (out.new.items ≡ out.old.items ++ compact_text (count number)) }
+{
+    if number < 10 {
+        return add_byte(b'0' + number as u8, out);
+    }
+    add_digits(number, out)
 }
 
 // Two numbers in brackets.
@@ -46,19 +69,20 @@ fn add_pair(first: u64, second: u64, out: &mut Vec<u8>) -> Result<(), AllocError
     ensures { OnOk result (out.new.items
         ≡ out.old.items ++ compact_text (tuple (count first ∷ count second ∷ []))) }
 {
-    add_text(b"[", out)?;
+    add_byte(b'[', out)?;
     add_number(first, out)?;
-    add_text(b",", out)?;
+    add_byte(b',', out)?;
     add_number(second, out)?;
-    add_text(b"]", out)
+    add_byte(b']', out)
 }
 
 // The comma before each element of a list except the first.
+#[inline(always)]
 fn add_comma(place: usize, out: &mut Vec<u8>) -> Result<(), AllocError>
     ensures { OnOk result (out.new.items ≡ out.old.items ++ comma_if (nat_lt 0 place)) }
 {
     if place > 0 {
-        add_text(b",", out)?;
+        add_byte(b',', out)?;
     }
     Ok(())
 }
@@ -80,9 +104,9 @@ fn add_items<T: ToText>(values: &[T], out: &mut Vec<u8>) -> Result<(), AllocErro
 fn add_list<T: ToText>(values: &[T], out: &mut Vec<u8>) -> Result<(), AllocError>
     ensures { OnOk result (out.new.items ≡ out.old.items ++ compact_text (list T.text_value values.now)) }
 {
-    add_text(b"[", out)?;
+    add_byte(b'[', out)?;
     add_items(values, out)?;
-    add_text(b"]", out)
+    add_byte(b']', out)
 }
 
 impl ToText for u64 {
@@ -133,11 +157,11 @@ impl ToText for Part {
 
     #[tactic(auto, using(crate::proofs::Steps::pair_steps))]
     fn add(&self, out: &mut Vec<u8>) -> Result<(), AllocError> {
-        add_text(b"[", out)?;
+        add_byte(b'[', out)?;
         add_number(self.feature, out)?;
-        add_text(b",", out)?;
+        add_byte(b',', out)?;
         add_list(self.numbers.as_slice(), out)?;
-        add_text(b"]", out)
+        add_byte(b']', out)
     }
 }
 
