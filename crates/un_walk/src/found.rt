@@ -14,6 +14,7 @@ ghost use Rattle.un_walk.specs.Found.{seens, nodes, IsPlaceIn, IsNumberOf, IsWit
 use crate::item::{Item, PackedItem, narrow};
 use crate::points::Points;
 use crate::ranked::nearly_sorted;
+use crate::room::make_room;
 use crate::seen::{Seen, sort_by_node};
 use crate::site::{Site, looked_up};
 use crate::strays::Strays;
@@ -51,15 +52,12 @@ pub struct Found<'a> {
     pub(crate) chords: Vec<Chord<'a>>,
 }
 
-// Adds a node at the end. Where there is no room, it is made for four times as many nodes, since each growth copies all.
+// Adds a node at the end.
 #[inline(always)]
 fn push<'a>(items: &mut Vec<PackedItem<'a>>, item: Item<'a>) -> Result<(), AllocError>
     ensures { OnOk result (items.new.items ≡ items.old.items ++ item.entry ∷ []) }
 {
-    let count = items.len();
-    if count == items.capacity() {
-        items.reserve(count.saturating_mul(3))?;
-    }
+    make_room(items)?;
     items.push(PackedItem::new(item)?)?;
     Ok(())
 }

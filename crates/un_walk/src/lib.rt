@@ -61,6 +61,7 @@ mod hasher;
 mod item;
 mod points;
 mod ranked;
+mod room;
 pub mod seen;
 mod site;
 mod strays;

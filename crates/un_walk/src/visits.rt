@@ -3,6 +3,7 @@
 ghost use Rattle.std.specs.Prelude.{◌≡◌, ◌<◌, [], length, OnOk};
 ghost use Rattle.un_walk.specs.Visits.{IsSiteAt, IsOneMore, IsInside, IsMarkedAt, WasMarkedAt};
 
+use crate::room::make_room;
 use crate::site::Site;
 use std::alloc::{AllocError, Global};
 use std::marker::Model;
@@ -66,6 +67,7 @@ impl<'a> Visits<'a> {
     {
         let begin = self.marks.len();
         let end = begin.checked_add(site.entry_count()).ok_or(AllocError)?;
+        make_room(&mut self.visits)?;
         self.marks.resize(end, 0)?;
         self.visits.push(Visit { site, begin })?;
         Ok(())
