@@ -13,3 +13,4 @@ pub mod Controlling
 pub mod InResult
 pub mod PortKeys
 pub mod PortsAlone
+pub mod Told

@@ -4,3 +4,4 @@ pub mod Functions
 pub mod Controlled
 pub mod TraceReply
 pub mod Ports
+pub mod Table

@@ -11,6 +11,7 @@ ghost use Rattle.un_trace.specs.Ports.{key_feature, key_number, port_of_key, por
 ghost use Rattle.un_trace.specs.TraceReply.{parts};
 
 use crate::nodes::is_in_result;
+use crate::table::parts_told;
 use smallvec::SmallVec;
 use std::alloc::{AllocError, Global};
 use un_ask::{Numbers, Part};
@@ -92,7 +93,7 @@ fn parts_of(alloc: Global, keys: &[u64]) -> Result<Vec<Part>, AllocError>
     Ok(features)
 }
 
-/// The features of the result, if there is room for the key of each port.
+/// The features of the result, if there is room for a bit or for the key of each port.
 pub(crate) fn parts_found<G: Ground>(
     alloc: Global,
     over: &G,
@@ -104,6 +105,9 @@ pub(crate) fn parts_found<G: Ground>(
     ensures { IfOk result (λ o. IfSome o (λ features. features.items
         ≡ parts (result_nodes (G.stars_and_areas over.now) barriers.now with_barriers (rising node_cmp (nodes found.now))))) }
 {
+    if let Some(features) = parts_told(alloc, over, found, barriers, with_barriers)? {
+        return Ok(Some(features));
+    }
     let Some(mut keys) = result_keys(alloc, over, found, barriers, with_barriers)? else {
         return Ok(None);
     };

@@ -11,8 +11,8 @@ returns g c =
     let G = g.G.Ground.stars_and_areas c.args.over.now in
     let B = c.args.barriers.now in
     let ns : List Node = nodes c.args.found.now in
-    let are : map port_of_key c.in-Some.keys.items ≡ map port_of (result_nodes G B c.args.with_barriers ns) =
-    subst (λ (o : Option (Vec ℕ Global)). IfSome o (λ v. map port_of_key v.items ≡ map port_of (result_nodes G B c.args.with_barriers ns))) c.in-Some.is c.in_ok-keys.ensures in
-    c.in_ok-features.ensures
+    let are : map port_of_key c.in-Some-2.keys.items ≡ map port_of (result_nodes G B c.args.with_barriers ns) =
+    subst (λ (o : Option (Vec ℕ Global)). IfSome o (λ v. map port_of_key v.items ≡ map port_of (result_nodes G B c.args.with_barriers ns))) c.in-Some-2.is c.in_ok-keys.ensures in
+    c.in_ok-features-2.ensures
     ∙ ap (parts_by key_feature key_number) c.as_slice.ensures.value
-    ∙ parts_of_keys G B c.args.with_barriers ns c.in-Some.keys.items c.sort_unstable.new.self.items are c.sort_unstable.ensures.permutation
+    ∙ parts_of_keys G B c.args.with_barriers ns c.in-Some-2.keys.items c.sort_unstable.new.self.items are c.sort_unstable.ensures.permutation
