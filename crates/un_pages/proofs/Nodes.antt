@@ -22,6 +22,28 @@ pub nil_from_length : {A : Type 0} (l : List A) → length l ≡ 0 → l ≡ []
 nil_from_length [] h = refl
 nil_from_length (x ∷ l) h = absurd (omega arith)
 
+-- ---- pairs read one after another
+
+drop_at : {A : Type 0} (l : List A) (i : ℕ) (x : A) → slice_get l i ≡ Some x → drop i l ≡ x ∷ drop (suc i) l
+drop_at [] i x e = cc
+drop_at (y ∷ l) zero x e = let same : y ≡ x = cc in ap (λ z. z ∷ l) same
+drop_at (y ∷ l) (suc i) x e = drop_at l i x e
+
+module _ {K V : Type 0} (is : K → Bool) (row : List (K × V)) (i : ℕ) (x : K × V) (here : slice_get row i ≡ Some x) where
+  pub lookup_here : is x.0 ≡ true → lookup is (drop i row) ≡ Some x.1
+  lookup_here e = ap (lookup is) (drop_at row i x here) ∙ ap (λ b. cond b (Some x.1) (lookup is (drop (suc i) row))) e
+
+  pub lookup_next : is x.0 ≡ false → lookup is (drop (i + 1) row) ≡ lookup is (drop i row)
+  lookup_next e =
+      let next : i + 1 ≡ suc i = omega arith in
+      ap (λ j. lookup is (drop j row)) next ∙ sym (ap (lookup is) (drop_at row i x here) ∙ ap (λ b. cond b (Some x.1) (lookup is (drop (suc i) row))) e)
+
+pub drop_end : {A : Type 0} (l : List A) (i : ℕ) → length l ≤ i → drop i l ≡ []
+drop_end [] zero h = refl
+drop_end [] (suc i) h = refl
+drop_end (x ∷ l) zero h = absurd (omega arith)
+drop_end (x ∷ l) (suc i) h = drop_end l i (omega arith)
+
 module _ {K V : Type 0} {cmp : K → K → Ordering} (o : IsTotalOrder cmp) where
   pub ordered_take : (l : List (K × V)) (n : ℕ) → IsOrdered cmp l → IsOrdered cmp (take n l)
   ordered_take l n s = ordered-left o (take n l) (drop n l) (subst (IsOrdered cmp) (sym (take-append-drop n l)) s)

@@ -161,11 +161,16 @@ impl<K: Ord + Copy, V: Drop> Level<K, V> for Page<K, V> {
         self.row.entry(0)
     }
 
+    // The pairs are read one after another. A page has few, most pages of a large map are in no cache, and a search by halves would wait for
+    // memory at each of its steps.
     fn get(&self, key: &K) -> Option<&Arc<V>> {
-        match self.row.seek(key) {
-            Ok(at) => Some(self.row.entry(at).1),
-            Err(_) => None,
+        for at in 0..self.row.len() {
+            let (here, value) = self.row.entry(at);
+            if key.cmp(&here).is_eq() {
+                return Some(value);
+            }
         }
+        None
     }
 
     fn next(&self, after: &K) -> Option<(K, &Arc<V>)> {
