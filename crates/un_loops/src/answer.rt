@@ -13,7 +13,7 @@ use std::alloc::{AllocError, Global};
 use un_ask::{Reply, Segments, TypedAsk};
 use un_defs::{Ground, Mode};
 use un_steps::Steps;
-use un_walk::{Found, reach_found};
+use un_walk::{Found, Order, reach_found};
 
 /// The loop segments among the nodes that the trace reached, where no dirt was met.
 fn loops_among<G: Ground>(
@@ -63,6 +63,7 @@ pub fn loops<G: Ground, L>(
         ask.starts.as_slice(),
         Mode::Any,
         &ask.barriers,
+        Order::Depth,
         steps,
     )?;
     match reached.dirt {

@@ -23,7 +23,7 @@ use std::alloc::{AllocError, Global};
 use un_ask::{Func, Include, Part, Parts, Reply, ResultReply, TraceKind, TypedAsk};
 use un_defs::{Barriers, Dirt, Ground, Ids, Mode};
 use un_steps::Steps;
-use un_walk::{Found, Seen, reach_found};
+use un_walk::{Found, Order, Seen, reach_found};
 
 fn mode_of(kind: TraceKind) -> Mode
     ensures { result ≡ mode_of kind }
@@ -294,6 +294,7 @@ pub fn trace<G: Ground, L>(
         ask.starts.as_slice(),
         mode,
         &ask.barriers,
+        Order::Breadth,
         steps,
     )?;
     match dirt_that_matters(&ask.barriers, reached.dirt) {

@@ -1,34 +1,9 @@
 -- How a list of found nodes grows.
-use Rattle.std.proofs.Common.{◌≡◌, ℕ, zero, suc, ◌<◌, Bool, true, false, cond, ◌||◌, List, [], ◌∷◌, ◌++◌, length, get_or, take, Contains, refl, sym, ap, subst, ◌∙◌, ◌⊎◌, inl, inr, true≢false, append-nil, append_assoc, arith}
-use Rattle.std.specs.List.{list_any}
+use Rattle.std.proofs.Common.{◌≡◌, ℕ, zero, suc, ◌<◌, Bool, true, false, cond, List, [], ◌∷◌, ◌++◌, length, get_or, take, Contains, refl, sym, ap, ◌∙◌, ◌⊎◌, inl, inr, append-nil, append_assoc, arith}
 use Rattle.un_defs.specs.declared.port.Node.{Node}
-use Rattle.un_defs.specs.Orders.{same_node}
 use Rattle.un_defs.proofs.Rising.{Among}
-use Rattle.un_defs.proofs.Members.{among_left, among_right, among_cases, contains_from_among, among_from_contains, among_from_list_any}
-use Rattle.un_defs.proofs.Unique.{node_same, node_itself}
-use Rattle.un_walk.specs.Growth.{has_node, with_node, Grows}
-
-or_cases : (a b : Bool) → (a || b) ≡ true → (a ≡ true) ⊎ (b ≡ true)
-or_cases true b e = inl refl
-or_cases false b e = inr e
-
--- a test of some element, one element further
-pub any_more : {A : Type 0} (p : A → Bool) (xs : List A) (k j : ℕ) (d : A) → j ≡ suc k → k < length xs
-    → list_any p (take j xs) ≡ (list_any p (take k xs) || p (get_or xs k d))
-any_more {A} p xs k j d e l = subst (λ j. list_any p (take j xs) ≡ (list_any p (take k xs) || p (get_or xs k d))) (sym e) (go xs k l)
-  where
-    last : (b : Bool) → (b || false) ≡ b
-    last true = refl
-    last false = refl
-
-    joined : (a b c : Bool) → (a || (b || c)) ≡ ((a || b) || c)
-    joined true b c = refl
-    joined false b c = refl
-
-    go : (xs : List A) (k : ℕ) → k < length xs → list_any p (take (suc k) xs) ≡ (list_any p (take k xs) || p (get_or xs k d))
-    go [] k l = absurd (omega arith)
-    go (y ∷ ys) zero l = last (p y)
-    go (y ∷ ys) (suc k) l = ap (λ b. p y || b) (go ys k (omega arith)) ∙ joined (p y) (list_any p (take k ys)) (p (get_or ys k d))
+use Rattle.un_defs.proofs.Members.{among_cases, contains_from_among, among_from_contains}
+use Rattle.un_walk.specs.Growth.{has_node, with_node, GrowsBy}
 
 none_taken : {A : Type 0} (xs : List A) (y : A) → Among (take 0 xs) y → ⊥
 none_taken [] y h = h
@@ -66,57 +41,24 @@ contains_at {A} xs k d l = (k, l, again xs k l)
 -- ---- lists that grow
 
 -- a list that stays has no more
-pub grows_none : (ns : List Node) (next : Node → Bool) → ((n : Node) → next n ≡ false) → Grows ns ns next
-grows_none ns next none = record {
-  more = [];
-  is = sym (append-nil ns);
-  has = λ n e. absurd (true≢false (sym e ∙ none n));
-  only = λ n h. absurd (among_from_contains [] n h);
-}
+pub grows_none : (ns : List Node) (next : Node → Bool) → GrowsBy ns ns next
+grows_none ns next = record { more = []; is = sym (append-nil ns); only = λ n h. absurd (among_from_contains [] n h) }
 
 -- the test may be another that answers alike
-pub grows_same : (old new : List Node) (p q : Node → Bool) → ((n : Node) → q n ≡ p n) → Grows old new p → Grows old new q
-grows_same old new p q same g = record {
-  more = g.more;
-  is = g.is;
-  has = λ n e. g.has n (sym (same n) ∙ e);
-  only = λ n h. same n ∙ g.only n h;
-}
+pub grows_same : (old new : List Node) (p q : Node → Bool) → ((n : Node) → q n ≡ p n) → GrowsBy old new p → GrowsBy old new q
+grows_same old new p q same g = record { more = g.more; is = g.is; only = λ n h. same n ∙ g.only n h }
 
 -- one node more, unless the list has it
-pub grows_with : (old new : List Node) (p q : Node → Bool) (m : Node) → ((n : Node) → q n ≡ (p n || same_node m n)) → Grows old new p → Grows old (with_node new m) q
-grows_with old new p q m same g = go (has_node new m) refl
+pub grows_with : (old new : List Node) (next : Node → Bool) (m : Node) → next m ≡ true → GrowsBy old new next → GrowsBy old (with_node new m) next
+grows_with old new next m passes g = go (has_node new m)
   where
-    or_right : (a b : Bool) → b ≡ true → (a || b) ≡ true
-    or_right true b e = refl
-    or_right false b e = e
-
-    from_p : (n : Node) → p n ≡ true → q n ≡ true
-    from_p n e = same n ∙ ap (λ b. b || same_node m n) e
-
-    from_same : (n : Node) → m ≡ n → q n ≡ true
-    from_same n e = same n ∙ or_right (p n) (same_node m n) (subst (λ k. same_node m k ≡ true) e (node_itself m))
-
-    go : (b : Bool) → has_node new m ≡ b → Grows old (cond b new (new ++ m ∷ [])) q
-    go true has = record {
-      more = g.more;
-      is = g.is;
-      has = λ n e. elim (or_cases (p n) (same_node m n) (sym (same n) ∙ e)) [
-        | inl a ↦ g.has n a
-        | inr a ↦ let r = among_from_list_any (same_node m) new has in
-            contains_from_among new n (subst (Among new) (sym (node_same m r.0 r.2) ∙ node_same m n a) r.1)
-      ];
-      only = λ n h. from_p n (g.only n h);
-    }
-    go false has = record {
+    go : (b : Bool) → GrowsBy old (cond b new (new ++ m ∷ [])) next
+    go true = g
+    go false = record {
       more = g.more ++ m ∷ [];
       is = ap (λ l. l ++ m ∷ []) g.is ∙ append_assoc old g.more (m ∷ []);
-      has = λ n e. contains_from_among (new ++ m ∷ []) n (elim (or_cases (p n) (same_node m n) (sym (same n) ∙ e)) [
-        | inl a ↦ among_left new (m ∷ []) n (among_from_contains new n (g.has n a))
-        | inr a ↦ among_right new (m ∷ []) n (inl (node_same m n a))
-      ]);
       only = λ n h. elim (among_cases g.more (m ∷ []) n (among_from_contains (g.more ++ m ∷ []) n h)) [
-        | inl a ↦ from_p n (g.only n (contains_from_among g.more n a))
-        | inr a ↦ elim a [ inl e ↦ from_same n e | inr e ↦ absurd e ]
+        | inl a ↦ g.only n (contains_from_among g.more n a)
+        | inr a ↦ elim a [ inl e ↦ ap next (sym e) ∙ passes | inr e ↦ absurd e ]
       ];
     }

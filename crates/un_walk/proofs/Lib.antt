@@ -10,3 +10,5 @@ pub mod FoundOver
 pub mod Tracing
 pub mod Keyed
 pub mod Visiting
+pub mod Following
+pub mod Walking

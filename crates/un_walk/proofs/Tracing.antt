@@ -1,7 +1,7 @@
 -- How the origins of found nodes and the chords change with one more link that is followed, and with one more start.
 use Rattle.std.proofs.Common.{◌≡◌, ◌⊎◌, ℕ, zero, suc, ◌+◌, ◌<◌, ◌≤◌, eqb, nat_le, Bool, true, false, cond, not, ◌&&◌, List, [], ◌∷◌, ◌++◌, length, get_or, slice_get, Contains, IsSome, Option, Some, None, refl, sym, ap, subst, ◌∙◌, inl, inr, true≢false, append-nil, length-append, arith}
 use Rattle.std.specs.List.{IsDistinct}
-use Rattle.std.specs.Option.{option_copied, option_map_or}
+use Rattle.std.specs.Option.{option_copied}
 use denote.Ref.{Bor}
 use Rattle.std.proofs.lemmas.Bool.{cases_lt}
 use Rattle.std.proofs.lemmas.Bool.Decides.{nat_tests}
@@ -14,7 +14,7 @@ use Rattle.un_defs.specs.declared.walk.Barriers.{Barriers}
 use Rattle.un_defs.specs.Orders.{same_node}
 use Rattle.un_defs.specs.Ground.{Ground, entry, ties}
 use Rattle.un_defs.specs.Reach.{goes_by, is_open, mode_takes, is_shut}
-use Rattle.un_defs.proofs.LinkCases.{some_same, both_true}
+use Rattle.un_defs.proofs.LinkCases.{both_true}
 use Rattle.un_defs.proofs.Members.{among_left, among_right, among_cases, contains_from_among, among_from_contains, list_any_from_among, among_from_list_any}
 use Rattle.un_defs.proofs.Rising.{Among}
 use Rattle.un_defs.proofs.Unique.{node_same, node_itself}
@@ -24,7 +24,7 @@ use Rattle.un_walk.specs.declared.found.Found.{Found}
 use Rattle.un_walk.specs.Growth.{has_node, with_node}
 use Rattle.un_walk.specs.Seen.{nodes_of}
 use Rattle.un_walk.specs.Found.{nodes, seens_of}
-use Rattle.un_walk.specs.Traced.{chords, IsOrigin, IsChord, GoesBy, Traces, AreDoneBefore, chord_if, AddsNode, AddsChord, AddsNothing, Adds}
+use Rattle.un_walk.specs.Traced.{chords, IsOrigin, IsChord, GoesBy, Traces, chord_if, AddsNode, AddsChord, AddsNothing, Adds}
 use Rattle.un_walk.proofs.FoundOver.{nodes_more, count_nodes, no_spot}
 use Rattle.un_walk.proofs.Walked.{among_at}
 
@@ -69,7 +69,7 @@ one_place ns distinct i j n at_i at_j = elim (cases_lt i j) [
         let differ = apart_from_distinct same_node ns i j n distinct low (slice_get_within ns j n at_j) in
         true≢false (sym (node_itself n) ∙ (λ k. same_node (sym here k) (sym there k)) ∙ differ)
 
-has_at : (ns : List Node) (k : ℕ) (n : Node) → slice_get ns k ≡ Some n → has_node ns n ≡ true
+pub has_at : (ns : List Node) (k : ℕ) (n : Node) → slice_get ns k ≡ Some n → has_node ns n ≡ true
 has_at ns k n e = list_any_from_among (same_node n) ns n (among_at ns k n e) (node_itself n)
 
 has_more : (ns more : List Node) (n : Node) → has_node ns n ≡ true → has_node (ns ++ more) n ≡ true
@@ -77,7 +77,7 @@ has_more ns more n e =
     let r = among_from_list_any (same_node n) ns e in
     list_any_from_among (same_node n) (ns ++ more) r.0 (among_left ns more r.0 r.1) r.2
 
-place_of : (ns : List Node) (n : Node) → Among ns n → (k : ℕ) × (slice_get ns k ≡ Some n)
+pub place_of : (ns : List Node) (n : Node) → Among ns n → (k : ℕ) × (slice_get ns k ≡ Some n)
 place_of [] n h = absurd h
 place_of (m ∷ ns) n h = elim h [
   | inl e ↦ (0, ap Some e)
@@ -380,63 +380,45 @@ module _ (G : Ground) (B : Barriers) (mode : Mode) where
     fresh = λ p q low high inside within. h.fresh p q (omega (arith, later, low)) (omega (arith, later, high)) inside within;
   }
 
-  -- no walk goes on from the node at k
-  pub traces_shut : (f : Found) (k : ℕ) (n : Node) → slice_get (nodes f) k ≡ Some n → Traces G B mode f k (AreDoneBefore k) → ((t : Tie) → is_open G B n ≡ true → Contains (ties G n) t → ⊥)
-      → Traces G B mode f (k + 1) (AreDoneBefore (k + 1))
-  traces_shut f k n here h shut = traces_done f k (k + 1) (AreDoneBefore k) (AreDoneBefore (k + 1)) (omega arith) h (λ p one other t low at opened stands goes. elim (cases_lt p k) [
-    | inl before ↦ before
-    | inr rest ↦
-        let same : p ≡ k = omega (arith, rest, low) in
-        let one_is : one ≡ n = some_same one n (sym at ∙ ap (slice_get (nodes f)) same ∙ here) in
-        absurd (shut t (subst (λ (m : Node). is_open G B m ≡ true) one_is opened) (subst (λ (m : Node). Contains (ties G m) t) one_is stands))
-  ])
-
-  pub traces_closed : (f : Found) (k : ℕ) (n : Node) → slice_get (nodes f) k ≡ Some n → Traces G B mode f k (AreDoneBefore k) → is_open G B n ≡ false → Traces G B mode f (k + 1) (AreDoneBefore (k + 1))
-  traces_closed f k n here h shut = traces_shut f k n here h (λ t opened stands. true≢false (sym opened ∙ shut))
-
-  pub traces_bare : (f : Found) (k : ℕ) (n : Node) → slice_get (nodes f) k ≡ Some n → Traces G B mode f k (AreDoneBefore k) → entry G n ≡ None → Traces G B mode f (k + 1) (AreDoneBefore (k + 1))
-  traces_bare f k n here h none = traces_shut f k n here h
-      (λ t opened stands. among_from_contains [] t (subst (λ o. Contains (option_map_or (λ s. s.ties) o []) t) none stands))
-
   module _ (f g : Found) (n : Node) (added : nodes g ≡ with_node (nodes f) n) (distinct : IsDistinct same_node (nodes g)) where
     has_it : has_node (nodes g) n ≡ true
     has_it = subst (λ ns. has_node ns n ≡ true) (sym added) (with_has (nodes f) n)
 
-    -- a link of the node at k is followed
-    pub traces_link : (k : ℕ) (done : ℕ → Tie → Type 0) (tie : Bor Tie) (one : Node) → Traces G B mode f k done → ((p : ℕ) (t : Tie) → done p t → p ≤ k)
-        → slice_get (nodes f) k ≡ Some one → is_open G B one ≡ true → Contains (ties G one) tie.now → goes_by G B mode one n tie.now ≡ true
-        → Adds G f g n k (Some tie) → Traces G B mode g k (λ p t. done p t ⊎ ((p ≡ k) × (t ≡ tie.now)))
-    traces_link k done tie one h bounded at opened stands goes adds = elim adds [
+    -- a link of the node at s is followed
+    pub traces_link : (k s : ℕ) (done : ℕ → Tie → Type 0) (tie : Bor Tie) (one : Node) → k ≤ s → Traces G B mode f k done → ((p : ℕ) (t : Tie) → done p t → p < length (nodes f))
+        → slice_get (nodes f) s ≡ Some one → is_open G B one ≡ true → Contains (ties G one) tie.now → goes_by G B mode one n tie.now ≡ true
+        → Adds G f g n s (Some tie) → Traces G B mode g k (λ p t. done p t ⊎ ((p ≡ s) × (t ≡ tie.now)))
+    traces_link k s done tie one up h bounded at opened stands goes adds = elim adds [
       | inl a ↦ by_node a
       | inr rest ↦ elim rest [ inl a ↦ by_chord a | inr a ↦ by_nothing a ]
     ]
       where
-        inside : k < length (nodes f)
-        inside = slice_get_within (nodes f) k one at
+        inside : s < length (nodes f)
+        inside = slice_get_within (nodes f) s one at
 
         -- the followed link leads to the node alone
         to_it : (m other : Node) (t : Tie) → t ≡ tie.now → goes_by G B mode m other t ≡ true → n ≡ other
         to_it m other t same e = sym (led one n tie.now goes) ∙ sym (ap (λ (x : Tie). x.to) same) ∙ led m other t e
 
-        by_node : AddsNode f g n k (Some tie) → Traces G B mode g k (λ p t. done p t ⊎ ((p ≡ k) × (t ≡ tie.now)))
+        by_node : AddsNode f g n s (Some tie) → Traces G B mode g k (λ p t. done p t ⊎ ((p ≡ s) × (t ≡ tie.now)))
         by_node a =
             let via : option_copied a.item.via ≡ Some tie.now = ap option_copied a.link in
-            let go_new : GoesBy G B mode (nodes g) k (length (nodes f)) tie.now = record {
+            let go_new : GoesBy G B mode (nodes g) s (length (nodes f)) tie.now = record {
               one = one;
               other = n;
-              at_one = node_kept f g a.item a.items a.chords distinct k one at;
+              at_one = node_kept f g a.item a.items a.chords distinct s one at;
               at_other = node_last f g a.item a.items a.chords distinct ∙ ap (λ m. Some m) a.node;
               opened = opened;
               stands = stands;
               goes = goes;
             } in
-            node_more f g a.item a.items a.chords distinct k k (h.root k) done (λ p t. done p t ⊎ ((p ≡ k) × (t ≡ tie.now))) h
+            node_more f g a.item a.items a.chords distinct k k (h.root s) done (λ p t. done p t ⊎ ((p ≡ s) × (t ≡ tie.now))) h
             (λ none. absurd (not_both (sym none ∙ via)))
             (λ t e. (
               omega (arith, a.from, inside),
               ap h.root a.from,
               subst (λ x. GoesBy G B mode (nodes g) x (length (nodes f)) t) (sym a.from)
-                  (subst (λ x. GoesBy G B mode (nodes g) k (length (nodes f)) x) (some_is (sym via ∙ e)) go_new),
+                  (subst (λ x. GoesBy G B mode (nodes g) s (length (nodes f)) x) (some_is (sym via ∙ e)) go_new),
             ))
             (λ p q t is low go some. elim is [
               | inl old ↦ inl old
@@ -452,23 +434,23 @@ module _ (G : Ground) (B : Barriers) (mode : Mode) where
                     via = via ∙ ap (λ x. Some x) (sym new.1);
                   })
             ])
-            (λ p t old. omega (arith, bounded p t old, inside))
+            bounded
             (λ p m other t is at_m e. elim is [
               | inl old ↦ inl old
               | inr new ↦ inr (subst (λ x. has_node (nodes g) x ≡ true) (to_it m other t new.1 e) has_it)
             ])
-            (λ p low before. h.fresh p k low (omega arith) before inside)
+            (λ p low before. h.fresh p s low up before inside)
 
-        by_chord : AddsChord f g n k (Some tie) → Traces G B mode g k (λ p t. done p t ⊎ ((p ≡ k) × (t ≡ tie.now)))
+        by_chord : AddsChord f g n s (Some tie) → Traces G B mode g k (λ p t. done p t ⊎ ((p ≡ s) × (t ≡ tie.now)))
         by_chord a =
-            let distinct_f : IsDistinct same_node (nodes f) = subst (IsDistinct same_node) (nodes_stay f g a.items (chord_if k a.place (Some tie)) a.chords) distinct in
+            let distinct_f : IsDistinct same_node (nodes f) = subst (IsDistinct same_node) (nodes_stay f g a.items (chord_if s a.place (Some tie)) a.chords) distinct in
             let within : a.place < length (nodes f) = slice_get_within (nodes f) a.place n a.at in
-            chords_more f g a.items (chord_if k a.place (Some tie)) a.chords k k done (λ p t. done p t ⊎ ((p ≡ k) × (t ≡ tie.now))) h
+            chords_more f g a.items (chord_if s a.place (Some tie)) a.chords k k done (λ p t. done p t ⊎ ((p ≡ s) × (t ≡ tie.now))) h
             (λ c has.
-            let is = chord_is k a.place tie c has in
+            let is = chord_is s a.place tie c has in
             subst (λ (x : Chord). (x.from ≤ x.to) × (h.root x.from ≡ h.root x.to) × GoesBy G B mode (nodes f) x.from x.to x.tie.now) is.1 (
               is.0,
-              h.fresh k a.place (omega arith) is.0 inside within,
+              h.fresh s a.place up (omega (arith, up, is.0)) inside within,
               record {
                 one = one;
                 other = n;
@@ -484,12 +466,12 @@ module _ (G : Ground) (B : Barriers) (mode : Mode) where
               | inr new ↦
                   let same : n ≡ go.other = to_it go.one go.other t new.1 go.goes in
                   let q_is : q ≡ a.place = one_place (nodes f) distinct_f q a.place n (go.at_other ∙ ap (λ m. Some m) (sym same)) a.at in
-                  let low_k : k ≤ a.place = omega (arith, low, new.0, q_is) in
+                  let low_s : s ≤ a.place = omega (arith, low, new.0, q_is) in
                   inr (record {
-                    chord = record { from = k; to = a.place; tie = tie };
-                    stands = subst (λ l. Contains l (record { from = k; to = a.place; tie = tie })) (sym a.chords)
-                        (contains_from_among (chords f ++ chord_if k a.place (Some tie)) (record { from = k; to = a.place; tie = tie })
-                        (among_right (chords f) (chord_if k a.place (Some tie)) (record { from = k; to = a.place; tie = tie }) (chord_there k a.place tie low_k)));
+                    chord = record { from = s; to = a.place; tie = tie };
+                    stands = subst (λ l. Contains l (record { from = s; to = a.place; tie = tie })) (sym a.chords)
+                        (contains_from_among (chords f ++ chord_if s a.place (Some tie)) (record { from = s; to = a.place; tie = tie })
+                        (among_right (chords f) (chord_if s a.place (Some tie)) (record { from = s; to = a.place; tie = tie }) (chord_there s a.place tie low_s)));
                     from = sym new.0;
                     to = sym q_is;
                     tie = sym new.1;
@@ -501,12 +483,12 @@ module _ (G : Ground) (B : Barriers) (mode : Mode) where
             ])
             (omega arith)
 
-        by_nothing : AddsNothing G f g n k → Traces G B mode g k (λ p t. done p t ⊎ ((p ≡ k) × (t ≡ tie.now)))
+        by_nothing : AddsNothing G f g n s → Traces G B mode g k (λ p t. done p t ⊎ ((p ≡ s) × (t ≡ tie.now)))
         by_nothing a =
             let more : chords g ≡ chords f ++ [] = a.chords ∙ sym (append-nil (chords f)) in
             let stay : nodes g ≡ nodes f = nodes_stay f g a.items [] more in
             let distinct_f : IsDistinct same_node (nodes f) = subst (IsDistinct same_node) stay distinct in
-            chords_more f g a.items [] more k k done (λ p t. done p t ⊎ ((p ≡ k) × (t ≡ tie.now))) h
+            chords_more f g a.items [] more k k done (λ p t. done p t ⊎ ((p ≡ s) × (t ≡ tie.now))) h
             (λ c has. absurd (among_from_contains [] c has))
             (λ p q t is low go some. elim is [
               | inl old ↦ inl old
@@ -514,7 +496,7 @@ module _ (G : Ground) (B : Barriers) (mode : Mode) where
                   let same : n ≡ go.other = to_it go.one go.other t new.1 go.goes in
                   elim a.why [
                     | inl from ↦
-                        let before : from.place < k = (h.origins from.place k from.tie from.origin).0 in
+                        let before : from.place < s = (h.origins from.place s from.tie from.origin).0 in
                         let q_is : q ≡ from.place = one_place (nodes f) distinct_f q from.place n (go.at_other ∙ ap (λ m. Some m) (sym same)) from.at in
                         absurd (omega (arith, before, q_is, low, new.0))
                     | inr none ↦ absurd (no_spot (subst IsSome (ap (entry G) (sym same) ∙ none) some))
@@ -550,13 +532,13 @@ module _ (G : Ground) (B : Barriers) (mode : Mode) where
             (λ p one other t is at e. inl is) (omega arith)
 
   -- nothing is found yet
-  pub traces_none : (f : Found) → nodes f ≡ [] → chords f ≡ [] → Traces G B mode f 0 (AreDoneBefore 0)
-  traces_none f none no_chords = record {
+  pub traces_none : (f : Found) (done : ℕ → Tie → Type 0) → nodes f ≡ [] → chords f ≡ [] → ((p : ℕ) (t : Tie) → done p t → ⊥) → Traces G B mode f 0 done
+  traces_none f done none no_chords nothing = record {
     root = λ v. v;
     starts = λ q is. refl;
     origins = λ p q t is. absurd (omega (arith, slice_get_within f.items.items q is.item is.at, count_nodes f, ap length none));
     chords = λ c has. absurd (among_from_contains [] c (subst (λ l. Contains l c) no_chords has));
-    whole = λ p q t low more go some. absurd (omega (arith, low));
-    closed = λ p one other t low at opened stands goes. absurd (omega (arith, low));
+    whole = λ p q t is more go some. absurd (nothing p t is);
+    closed = λ p one other t is at opened stands goes. absurd (nothing p t is);
     fresh = λ p q low high inside within. absurd (omega (arith, inside, ap length none));
   }

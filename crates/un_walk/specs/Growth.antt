@@ -12,9 +12,8 @@ has_node ns n = list_any (same_node n) ns
 abbrev pub with_node : List Node → Node → List Node
 with_node ns n = if has_node ns n then ns else ns ++ n ∷ []
 
--- the new list is the old one with more at its end: nodes that pass the test, and then it has all of these
-pub record Grows (old new : List Node) (next : Node → Bool) : Type 0 where
+-- the new list is the old one with more at its end: nodes that pass the test
+pub record GrowsBy (old new : List Node) (next : Node → Bool) : Type 0 where
   pub more : List Node
   pub is : new ≡ old ++ more
-  pub has : (n : Node) → next n ≡ true → Contains new n
   pub only : (n : Node) → Contains more n → next n ≡ true

@@ -11,3 +11,4 @@ pub mod Traced
 pub mod Spread
 pub mod Visits
 pub mod Packed
+pub mod Aways

@@ -41,6 +41,10 @@ pub record IsOneMore (old new : List Visited) (s : Site) : Type 0 where
 abbrev pub IsSiteAt : List Visited → ℕ → Site → Type 0
 IsSiteAt vs number s = (v : Visited) × (slice_get vs number ≡ Some v) × (v.site ≡ s)
 
+-- the list begins with the marks of the site with the number
+abbrev pub AreMarksFrom : List Visited → ℕ → List ℕ → Type 0
+AreMarksFrom vs number marks = (v : Visited) × (slice_get vs number ≡ Some v) × (take (length v.marks) marks ≡ v.marks)
+
 -- there is a mark at the place of the star with the number
 abbrev pub IsInside : List Visited → ℕ → ℕ → Type 0
 IsInside vs number place = (v : Visited) × (slice_get vs number ≡ Some v) × (place < length v.marks)

@@ -52,6 +52,9 @@ pub struct Found<'a> {
     pub(crate) chords: Vec<Chord<'a>>,
 }
 
+/// How many marks are looked at for a node to which a link leads from afar. Most stars have fewer entries.
+const LOOKS: usize = 8;
+
 // Adds a node at the end.
 #[inline(always)]
 fn push<'a>(items: &mut Vec<PackedItem<'a>>, item: Item<'a>) -> Result<(), AllocError>
@@ -169,7 +172,7 @@ impl<'a> Found<'a> {
 
     // Whether the node at the place was found from this one, by a link. Nothing is looked up for that.
     #[inline(always)]
-    fn was_found_from(&self, place: usize, node: Node) -> bool
+    pub(crate) fn was_found_from(&self, place: usize, node: Node) -> bool
         requires { All (λ i. i.from < length self.now.items.items) self.now.items.items }
         ensures found { IsTrue result → IsTrue (has_node (nodes self.now) node) }
         ensures from { IsTrue result → IsFoundFrom self.now place node }
@@ -301,8 +304,76 @@ impl<'a> Found<'a> {
         Ok(())
     }
 
-    /// Adds the node at the end, unless it is there. A link leads to it from the node at the place `from`, or it is a start, and `from` is the
-    /// number of nodes found before.
+    // Whether the node stands at the place.
+    fn is_at(&self, place: usize, node: Node) -> bool
+        ensures { IsTrue result → slice_get (nodes self.now) place ≡ Some node }
+    {
+        match self.items.get(place) {
+            Some(item) => is_same_node(item.node(), node),
+            None => false,
+        }
+    }
+
+    // The place of the node, where one of the first marks at the point with the number tells it. No entry is read for that: the star may be in
+    // no cache.
+    fn marked_place(&self, number: usize, node: Node) -> Option<usize>
+        requires { number < length self.now.visited }
+        ensures { IfSome result (λ place. slice_get (nodes self.now) place ≡ Some node) }
+    {
+        for mark in self.visited.marks_from(number).iter().take(LOOKS) {
+            if let Some(place) = (*mark as usize).checked_sub(1) {
+                if self.is_at(place, node) {
+                    return Some(place);
+                }
+            }
+        }
+        None
+    }
+
+    // Adds the node at the end, unless it is there. Its point has the number.
+    #[inline(always)]
+    fn add_at<G: Ground>(
+        &mut self,
+        over: &G,
+        node: Node,
+        number: usize,
+        from: usize,
+        via: Option<&'a PackedTie>,
+    ) -> Result<(), AllocError>
+        requires over { IsFoundOver (G.stars_and_areas over.now) self.old }
+        requires number { IsNumberOf self.old.points node.at number }
+        requires from { from ≤ length (nodes self.old) }
+        ensures over { OnOk result (IsFoundOver (G.stars_and_areas over.now) self.new) }
+        ensures nodes { OnOk result (nodes self.new ≡ with_node (nodes self.old) node) }
+        ensures adds { OnOk result (Adds (G.stars_and_areas over.now) self.old self.new node from via.entry) }
+    {
+        let site = self.visited.site(number);
+        match site.place(node.port) {
+            Some(place) => {
+                let spot = site.spot_at(place);
+                let seen = Seen { node, spot };
+                let item = Item {
+                    seen,
+                    number,
+                    from,
+                    via,
+                };
+                self.add_marked(over, item, place)
+            }
+            None => {
+                let seen = Seen { node, spot: None };
+                let item = Item {
+                    seen,
+                    number,
+                    from,
+                    via,
+                };
+                self.add_stray(over, item)
+            }
+        }
+    }
+
+    /// Adds the node at the end, unless it is there. A link leads to it from the node at the place `from`, at which the walk is.
     #[inline(always)]
     pub(crate) fn add<G: Ground, L>(
         &mut self,
@@ -327,29 +398,35 @@ impl<'a> Found<'a> {
             return Ok(());
         }
         let number = self.number_from(alloc, over, node.at, from, steps)?;
-        let site = self.visited.site(number);
-        match site.place(node.port) {
-            Some(place) => {
-                let spot = site.spot_at(place);
-                let seen = Seen { node, spot };
-                let item = Item {
-                    seen,
-                    number,
-                    from,
-                    via,
-                };
-                self.add_marked(over, item, place)
-            }
-            None => {
-                let seen = Seen { node, spot: None };
-                let item = Item {
-                    seen,
-                    number,
-                    from,
-                    via,
-                };
-                self.add_stray(over, item)
-            }
+        self.add_at(over, node, number, from, via)
+    }
+
+    /// Adds the node at the end, unless it is there. A link that was put off leads to it from the node at the place `from`, or it is a start, and
+    /// `from` is the number of nodes found before.
+    #[inline(never)]
+    pub(crate) fn add_far<G: Ground, L>(
+        &mut self,
+        alloc: Global,
+        over: &'a G,
+        node: Node,
+        from: usize,
+        via: Option<&'a PackedTie>,
+        steps: &mut Steps<L>,
+    ) -> Result<(), AllocError>
+        requires over { IsFoundOver (G.stars_and_areas over.now) self.old }
+        requires from { from ≤ length (nodes self.old) }
+        ensures over { OnOk result (IsFoundOver (G.stars_and_areas over.now) self.new) }
+        ensures nodes { OnOk result (nodes self.new ≡ with_node (nodes self.old) node) }
+        ensures adds { OnOk result (Adds (G.stars_and_areas over.now) self.old self.new node from via.entry) }
+        // A star is looked up where the node is the first at its point.
+        ensures once { OnOk result
+            (steps.new + length (nodes self.old) ≤ steps.old + length (nodes self.new)) }
+        ensures never_falls { steps.old ≤ steps.new }
+    {
+        let number = self.number(alloc, over, node.at, steps)?;
+        match self.marked_place(number, node) {
+            Some(place) => self.add_chord(from, place, via),
+            None => self.add_at(over, node, number, from, via),
         }
     }
 }

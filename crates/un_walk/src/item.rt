@@ -66,6 +66,7 @@ impl<'a> PackedItem<'a> {
         })
     }
 
+    /// The node's port.
     pub(crate) fn port(&self) -> Port
         ensures { result ≡ self.now.seen.node.port }
     {
@@ -75,12 +76,14 @@ impl<'a> PackedItem<'a> {
         }
     }
 
+    /// The node's point.
     pub(crate) fn at(&self) -> Point
         ensures { result ≡ self.now.seen.node.at }
     {
         self.at
     }
 
+    /// The node itself.
     pub(crate) fn node(&self) -> Node
         ensures { result ≡ self.now.seen.node }
     {

@@ -11,16 +11,23 @@
 //!
 //! # How it is found
 //!
-//! [`walk::reach_found`] keeps the nodes found so far in a list ([`found::Found`]), which has each once and in the order of finding, and takes
-//! them in this order. If a walk may go on from a node, it adds what the node's links lead to, unless it is there ([`walk::visit`],
-//! [`traversal::follow`]). When it has taken all that were found, it adds the next start, unless that was reached from the starts before.
+//! [`walk::reach_found`] keeps the nodes found so far in a list ([`found::Found`]), which has each once and in the order of finding, and visits
+//! them in this order. If a walk may go on from a node, it follows the node's links, and adds each node to which one leads, unless it is there
+//! ([`walk::visit`], [`traversal::follow`]). When it has visited all that were found, it adds the next start, unless that was reached from the
+//! starts before.
+//!
+//! Callers say in which order links are followed ([`order::Order`]). In breadth they are followed when the node is visited. In depth only those to
+//! nodes at the same point are; the others are put off, and when all found nodes are visited, the one that was put off last is followed. So what is
+//! reached at a point is visited in one go, while the star there is at hand. Of a large network most stars are in no cache.
 //!
 //! Points at which a node was found have numbers ([`points::Points`]), and for each the list keeps what the ground has there, the star and
 //! the least dirty area ([`site::Site`]), and a mark for each entry of the star: the place of its node in the list, if it was found
 //! ([`visits::Visits`]). So the mark of its entry tells whether a node is in the list, and where; the few nodes without an entry are kept in a
-//! set of their own ([`strays::Strays`]). Most links stay at a point, and lead to a node whose point's number is known. Of the others, most lead to where their
-//! node was found from: the list remembers that place for each node, and such a link needs no look-up at all. The links of a star are read when
-//! the walk first comes to its point, all in one loop ([`site::Site::links_away`]), since those that no cache holds are fetched side by side then.
+//! set of their own ([`strays::Strays`]). Most links stay at a point, and lead to a node whose point's number is known. Of the others, most lead to
+//! where their node was found from: the list remembers that place for each node, and such a link needs no look-up at all, and is not put off. Where a
+//! link that was put off leads to a node found before, one of the first marks at its point mostly tells so, and the star is not read. The links of a
+//! star are read when the walk first comes to its point, all in one loop ([`site::Site::links_away`]), since those that no cache holds are fetched
+//! side by side then.
 //!
 //! The list also remembers by which link each node was found ([`found::Origin`]). These links make a forest over the places in the list, with
 //! the starts as roots. A link that leads to a node found before, at the same place or a later one, is a chord ([`found::Chord`]), and chords are
@@ -28,16 +35,17 @@
 //! each from the earlier of its ends. Since one start is done before the next one is begun, the places of one tree follow each other, and a
 //! chord joins two places of one tree.
 //!
-//! It is done once it has taken the last node. The dirt is kept on the way: the least so far, by area, then port ([`dirt::dirt_after`]). So
-//! are the entries of the nodes, which callers need for their results. [`walk::reach_found`] answers the list itself, for callers that ask for
-//! the forest and the chords; [`walk::reach_seen`] the nodes with their entries, sorted, first by one number each ([`ranked`]) and then by node, and
-//! [`walk::reach`] the nodes alone.
+//! It is done once it has visited the last node and no link is put off. The dirt is kept on the way: the least so far, by area, then port
+//! ([`dirt::dirt_after`]). So are the entries of the nodes, which callers need for their results. [`walk::reach_found`] answers the list itself, for
+//! callers that ask for the forest and the chords; [`walk::reach_seen`] the nodes with their entries, sorted, first by one number each ([`ranked`])
+//! and then by node, and [`walk::reach`] the nodes alone.
 //!
 //! # Why that is enough
 //!
-//! Three facts hold before each node is taken. Each node of the list is reached, since it is a start or a link leads to it from a node of the
-//! list that is open. Each start that was begun is in the list. Each node to which a walk goes on from a node that was taken is in the list. When all have
-//! been taken, the third fact says that no walk leaves the list, so it has exactly the reached nodes.
+//! Three facts hold before each step. Each node of the list is reached, since it is a start or a link leads to it from a node of the list that
+//! is open. Each start that was begun is in the list. Each node to which a walk goes on from a visited node is in the list, or a link from there
+//! to it is put off. When all have been visited and no link is put off, the third fact says that no walk leaves the list, so it has exactly the
+//! reached nodes.
 //!
 //! A set of the ground's nodes is not known to be finite, but a list in memory has fewer than 2^64 nodes, so it comes to an end, or to the
 //! end of memory.
@@ -51,7 +59,8 @@
 //! a search among the entries of the star to which it leads, save those back to the node from which it was found. A link to another point
 //! takes one look-up in a hash table of points before. Only where a tier is asked for and a path leads to another point is one more star
 //! looked up. The links of each star to which the walk comes are read once more than it goes by them. Sorting the nodes, where that is asked
-//! for, takes n log n comparisons. A found node is kept in 64 bytes ([`item::PackedItem`]), a point in 56, and a mark in four.
+//! for, takes n log n comparisons. A found node is kept in 64 bytes ([`item::PackedItem`]), a point in 56, a mark in four, and a
+//! link that is put off in 48.
 #![tactic(auto)]
 
 mod dirt;
@@ -59,6 +68,7 @@ mod entries;
 pub mod found;
 mod hasher;
 mod item;
+pub mod order;
 mod points;
 mod ranked;
 mod room;
@@ -70,5 +80,6 @@ mod visits;
 pub mod walk;
 
 pub use found::{Chord, Found, Origin};
+pub use order::Order;
 pub use seen::Seen;
 pub use walk::{Reached, ReachedFound, ReachedSeen, reach, reach_found, reach_seen};

@@ -6,16 +6,25 @@ ghost use Rattle.un_geom.specs.Places.{same_point};
 ghost use Rattle.un_defs.specs.Ground.{entry, ties};
 ghost use Rattle.un_defs.specs.Reach.{mode_takes, is_path, is_shut, controls, goes_by, is_open};
 ghost use Rattle.un_walk.specs.Found.{nodes, IsFoundOver};
-ghost use Rattle.un_walk.specs.Growth.{Grows};
+ghost use Rattle.un_walk.specs.Growth.{GrowsBy};
+ghost use Rattle.un_walk.specs.Aways.{FollowsAll};
 ghost use Rattle.un_walk.specs.Ticks.{TiesStay, TieStays};
-ghost use Rattle.un_walk.specs.Traced.{Traces, AreDoneBefore};
 
 use crate::entries::is_controlled;
 use crate::found::Found;
+use crate::order::{Order, at_once};
 use std::alloc::{AllocError, Global};
 use un_defs::{Barriers, Ground, LinkName, Mode, Node, PackedSpot, PackedTie, Star};
 use un_geom::Point;
 use un_steps::Steps;
+
+/// A link that a walk met and put off, with the place of the node from which it leads.
+#[derive(Clone, Copy)]
+pub(crate) struct Away<'a> {
+    pub(crate) from: usize,
+    pub(crate) to: Node,
+    pub(crate) tie: &'a PackedTie,
+}
 
 /// Where a walk stands: a node, its number among those found, the star at its point, and the entry that the star has for it.
 #[derive(Clone, Copy)]
@@ -112,36 +121,48 @@ fn goes_by<G: Ground, L>(
     mode_takes(mode, tie) && !is_shut(over, place, tie, barriers, steps)
 }
 
-/// Adds the nodes to which the links of an open node lead.
+/// Follows the links of an open node, or puts them off, as the order says. It begins with the last link: of those that are put off the last is
+/// followed first, so a walk in depth goes by the first link first.
 pub(crate) fn follow<'a, G: Ground, L>(
     alloc: Global,
     over: &'a G,
     place: &Place<'a>,
     mode: Mode,
     barriers: &Barriers,
+    order: Order,
     found: &mut Found<'a>,
+    aways: &mut Vec<Away<'a>>,
     steps: &mut Steps<L>,
 ) -> Result<(), AllocError>
     requires over { IsFoundOver (G.stars_and_areas over.now) found.old }
     requires found { slice_get (nodes found.old) place.now.number ≡ Some place.now.node }
     requires opened { is_open (G.stars_and_areas over.now) barriers.now place.now.node ≡ true }
-    requires traces { Traces (G.stars_and_areas over.now) barriers.now mode found.old place.now.number
-        (AreDoneBefore place.now.number) }
     requires star { place.now.star.now ≡ (G.stars_and_areas over.now).stars place.now.node.at }
     requires entry { entry (G.stars_and_areas over.now) place.now.node ≡ Some place.now.spot.now }
     ensures over { OnOk result (IsFoundOver (G.stars_and_areas over.now) found.new) }
-    ensures next { OnOk result (Grows (nodes found.old) (nodes found.new)
+    ensures next { OnOk result (GrowsBy (nodes found.old) (nodes found.new)
         (λ m. list_any (goes_by (G.stars_and_areas over.now) barriers.now mode place.now.node m)
         (ties (G.stars_and_areas over.now) place.now.node))) }
-    ensures traces { OnOk result (Traces (G.stars_and_areas over.now) barriers.now mode found.new
-        (place.now.number + 1) (AreDoneBefore (place.now.number + 1))) }
+    ensures follows { OnOk result (FollowsAll (G.stars_and_areas over.now) barriers.now mode found.old found.new
+        aways.old.items aways.new.items place.now.node place.now.number) }
     ensures once { TiesStay (G.stars_and_areas over.now) barriers.now place.now.node
         → OnOk result (steps.new + length (nodes found.old) ≤ steps.old + length (nodes found.new)) }
     ensures never_falls { steps.old ≤ steps.new }
 {
-    for tie in place.spot.ties() {
+    let ties = place.spot.ties();
+    for index in (0..ties.len()).rev() {
+        let tie = &ties[index];
         if goes_by(over, place, tie, mode, barriers, steps) {
-            found.add(alloc, over, tie.to(), place.number, Some(tie), steps)?;
+            let to = tie.to();
+            if at_once(order, to.at, place.node.at) {
+                found.add(alloc, over, to, place.number, Some(tie), steps)?;
+            } else if !found.was_found_from(place.number, to) {
+                aways.push(Away {
+                    from: place.number,
+                    to,
+                    tie,
+                })?;
+            }
         }
     }
     Ok(())

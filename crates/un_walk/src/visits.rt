@@ -1,7 +1,7 @@
 //! The points to which a walk came, with what the ground has there, and a mark for each entry of their stars.
 
 ghost use Rattle.std.specs.Prelude.{◌≡◌, ◌<◌, [], length, OnOk};
-ghost use Rattle.un_walk.specs.Visits.{IsSiteAt, IsOneMore, IsInside, IsMarkedAt, WasMarkedAt};
+ghost use Rattle.un_walk.specs.Visits.{IsSiteAt, AreMarksFrom, IsOneMore, IsInside, IsMarkedAt, WasMarkedAt};
 
 use crate::room::make_room;
 use crate::site::Site;
@@ -59,6 +59,14 @@ impl<'a> Visits<'a> {
         ensures { IsSiteAt self.now number result }
     {
         self.visits[number].site
+    }
+
+    /// The marks of the site with the number, with those of the sites after it.
+    pub(crate) fn marks_from(&self, number: usize) -> &[u32]
+        requires { number < length self.now }
+        ensures { AreMarksFrom self.now number result.now }
+    {
+        &self.marks[self.visits[number].begin..]
     }
 
     /// Adds a site at which nothing is marked. If memory runs out, room for its marks may stay behind.

@@ -6,17 +6,19 @@ ghost use Rattle.un_defs.specs.Ground.{entry};
 ghost use Rattle.un_defs.specs.Orders.{node_cmp, rising};
 ghost use Rattle.un_defs.specs.Reach.{IsReach, leads, dirt, meets_condition};
 ghost use Rattle.un_walk.specs.Found.{nodes, IsFoundOver};
-ghost use Rattle.un_walk.specs.Growth.{Grows};
+ghost use Rattle.un_walk.specs.Growth.{GrowsBy};
+ghost use Rattle.un_walk.specs.Aways.{FollowsAll};
 ghost use Rattle.un_walk.specs.Seen.{nodes_of, spot_of, HaveEntries};
 ghost use Rattle.un_walk.specs.Site.{IsSite};
 ghost use Rattle.un_walk.specs.Ticks.{IsLookedUpOnce};
-ghost use Rattle.un_walk.specs.Traced.{Traces, AreDoneBefore, IsTraced};
+ghost use Rattle.un_walk.specs.Traced.{IsTraced};
 
 use crate::dirt::dirt_after;
 use crate::found::Found;
+use crate::order::Order;
 use crate::seen::Seen;
 use crate::site::Site;
-use crate::traversal::{Place, follow};
+use crate::traversal::{Away, Place, follow};
 use std::alloc::{AllocError, Global};
 use un_defs::port::Nodes;
 use un_defs::{Barriers, Dirt, Ground, Mode, Node, PackedSpot};
@@ -81,7 +83,7 @@ fn is_shut_by_barrier(barriers: &Barriers, spot: &PackedSpot) -> bool
     barriers.are_met_by(spot)
 }
 
-/// Adds the nodes to which a walk goes on from this one, which has the number among those found.
+/// Follows the links by which a walk goes on from this node, which has the number among those found, or puts them off, as the order says.
 fn visit<'a, G: Ground, L>(
     alloc: Global,
     over: &'a G,
@@ -90,21 +92,21 @@ fn visit<'a, G: Ground, L>(
     site: &Site<'a>,
     mode: Mode,
     barriers: &Barriers,
+    order: Order,
     found: &mut Found<'a>,
+    aways: &mut Vec<Away<'a>>,
     steps: &mut Steps<L>,
 ) -> Result<(), AllocError>
     requires over { IsFoundOver (G.stars_and_areas over.now) found.old }
     requires found { slice_get (nodes found.old) number ≡ Some one.now.node }
-    requires traces { Traces (G.stars_and_areas over.now) barriers.now mode found.old number
-        (AreDoneBefore number) }
     requires site { IsSite (G.stars_and_areas over.now) site.now }
     requires at { site.now.at ≡ one.now.node.at }
     requires entry { spot_of one.now ≡ entry (G.stars_and_areas over.now) one.now.node }
     ensures over { OnOk result (IsFoundOver (G.stars_and_areas over.now) found.new) }
-    ensures next { OnOk result (Grows (nodes found.old) (nodes found.new)
+    ensures next { OnOk result (GrowsBy (nodes found.old) (nodes found.new)
         (leads (G.stars_and_areas over.now) barriers.now mode one.now.node)) }
-    ensures traces { OnOk result (Traces (G.stars_and_areas over.now) barriers.now mode found.new (number + 1)
-        (AreDoneBefore (number + 1))) }
+    ensures follows { OnOk result (FollowsAll (G.stars_and_areas over.now) barriers.now mode found.old found.new
+        aways.old.items aways.new.items one.now.node number) }
     ensures once { IsLookedUpOnce (G.stars_and_areas over.now) barriers.now
         → OnOk result (steps.new + length (nodes found.old) ≤ steps.old + length (nodes found.new)) }
     ensures never_falls { steps.old ≤ steps.new }
@@ -136,12 +138,15 @@ fn visit<'a, G: Ground, L>(
         },
         mode,
         barriers,
+        order,
         found,
+        aways,
         steps,
     )
 }
 
-/// What walks from the starts reach, in the order in which it was found, and the dirt that they meet.
+/// What walks from the starts reach, in the order in which it was found, and the dirt that they meet. Links are followed in the order that is
+/// given.
 ///
 /// `steps` counts the stars that are looked up. It answers an error only for want of memory; the count may then have risen.
 pub fn reach_found<'a, G: Ground, L>(
@@ -150,6 +155,7 @@ pub fn reach_found<'a, G: Ground, L>(
     starts: &[Node],
     mode: Mode,
     barriers: &Barriers,
+    order: Order,
     steps: &mut Steps<L>,
 ) -> Result<ReachedFound<'a>, AllocError>
     // In order, the nodes are exactly those in which a walk ends.
@@ -170,20 +176,24 @@ pub fn reach_found<'a, G: Ground, L>(
     ensures never_falls { steps.old ≤ steps.new }
 {
     let mut found = Found::new(alloc);
+    let mut aways = Vec::new(alloc);
     let mut least = None;
     let mut begun = 0;
     let mut next = 0;
-    while begun < starts.len() || next < found.len() {
-        if next == found.len() {
-            found.add(alloc, over, starts[begun], next, None, steps)?;
-            begun += 1;
-        } else {
+    while begun < starts.len() || next < found.len() || !aways.is_empty() {
+        if next < found.len() {
             let (one, site) = found.at(over, next);
             least = dirt_after(least, site.area, one.node.port);
             visit(
-                alloc, over, &one, next, &site, mode, barriers, &mut found, steps,
+                alloc, over, &one, next, &site, mode, barriers, order, &mut found, &mut aways,
+                steps,
             )?;
             next += 1;
+        } else if let Some(Away { from, to, tie }) = aways.pop() {
+            found.add_far(alloc, over, to, from, Some(tie), steps)?;
+        } else {
+            found.add_far(alloc, over, starts[begun], next, None, steps)?;
+            begun += 1;
         }
     }
     Ok(ReachedFound { found, dirt: least })
@@ -212,7 +222,7 @@ pub fn reach_seen<'a, G: Ground, L>(
         → IfOk result (λ r. steps.new ≤ steps.old + length r.seen.items) }
     ensures never_falls { steps.old ≤ steps.new }
 {
-    let reached = reach_found(alloc, over, starts, mode, barriers, steps)?;
+    let reached = reach_found(alloc, over, starts, mode, barriers, Order::Breadth, steps)?;
     let seen = reached.found.sorted(alloc, over)?;
     Ok(ReachedSeen {
         seen,
@@ -242,7 +252,7 @@ pub fn reach<G: Ground, L>(
         → IfOk result (λ r. steps.new ≤ steps.old + length r.nodes) }
     ensures never_falls { steps.old ≤ steps.new }
 {
-    let reached = reach_found(alloc, over, starts, mode, barriers, steps)?;
+    let reached = reach_found(alloc, over, starts, mode, barriers, Order::Breadth, steps)?;
     let mut nodes = reached.found.nodes(alloc)?;
     sort(&mut nodes);
     Ok(Reached {
