@@ -18,7 +18,8 @@ use un_defs::{Barriers, Ground, LinkName, Mode, Node, PackedSpot, PackedTie, Sta
 use un_geom::Point;
 use un_steps::Steps;
 
-/// A link that a walk met and put off, with the place of the node from which it leads.
+/// A link that a walk met and put off, with the place of the node from which it leads. The node to
+/// which it leads stands beside it, so that the link need not be read again: it may be in no cache.
 #[derive(Clone, Copy)]
 pub(crate) struct Away<'a> {
     pub(crate) from: usize,
@@ -143,8 +144,8 @@ pub(crate) fn follow<'a, G: Ground, L>(
     ensures next { OnOk result (GrowsBy (nodes found.old) (nodes found.new)
         (λ m. list_any (goes_by (G.stars_and_areas over.now) barriers.now mode place.now.node m)
         (ties (G.stars_and_areas over.now) place.now.node))) }
-    ensures follows { OnOk result (FollowsAll (G.stars_and_areas over.now) barriers.now mode found.old found.new
-        aways.old.items aways.new.items place.now.node place.now.number) }
+    ensures follows { OnOk result (FollowsAll (G.stars_and_areas over.now) barriers.now mode
+        found.old found.new aways.old.items aways.new.items place.now.node place.now.number) }
     ensures once { TiesStay (G.stars_and_areas over.now) barriers.now place.now.node
         → OnOk result (steps.new + length (nodes found.old) ≤ steps.old + length (nodes found.new)) }
     ensures never_falls { steps.old ≤ steps.new }
