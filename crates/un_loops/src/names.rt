@@ -26,11 +26,15 @@ impl<'a> Model for Names<'a> {
     ghost view = { λ n. map (λ t. t.now.name) n.ties.items };
 }
 
-fn segment_if(name: LinkName, is_marked: bool) -> Option<Segment>
-    ensures { result ≡ segment_if name is_marked }
+// The segment of a link, if it has one and is marked. A link without a mark is not read.
+fn segment_if(tie: &PackedTie, is_marked: bool) -> Option<Segment>
+    ensures { result ≡ segment_if tie.now.name is_marked }
 {
-    match name {
-        LinkName::Seg { line, index } if is_marked => Some(Segment { line, index }),
+    if !is_marked {
+        return None;
+    }
+    match tie.name() {
+        LinkName::Seg { line, index } => Some(Segment { line, index }),
         _ => None,
     }
 }
@@ -46,7 +50,7 @@ fn marked_among(
 {
     ties.iter()
         .zip(marks)
-        .filter_map(|(tie, is_marked)| segment_if(tie.name(), *is_marked))
+        .filter_map(|(tie, is_marked)| segment_if(tie, *is_marked))
         .collect(alloc)
 }
 
