@@ -12,6 +12,7 @@ use Rattle.un_geom.specs.declared.point.Point.{Point}
 use Rattle.un_geom.specs.Places.{same_point}
 use Rattle.un_defs.specs.declared.port.Node.{Node}
 use Rattle.un_defs.specs.declared.star.Spot.{Spot}
+use Rattle.un_defs.specs.declared.star.Star.{Star}
 use Rattle.un_defs.specs.Orders.{same_port, same_node}
 use Rattle.un_defs.specs.Ground.{Ground, entry}
 use Rattle.un_defs.proofs.Rising.{Among}
@@ -23,11 +24,11 @@ use Rattle.un_walk.specs.declared.found.Found.{Found}
 use Rattle.un_walk.specs.Growth.{has_node, with_node}
 use Rattle.un_walk.specs.Seen.{node_of, spot_of, HaveEntries}
 use Rattle.un_walk.specs.Site.{star_of, IsSite}
-use Rattle.un_walk.specs.Visits.{Visited, IsInside, IsMarkedAt, WasMarkedAt}
+use Rattle.un_walk.specs.Visits.{Visited, IsInside, IsPlaceAt, IsMarkedAt, WasMarkedAt}
 use Rattle.un_walk.specs.Found.{number_of, IsNumberOf, IsWithoutNumber, with_point, place_in, IsPlaceIn, mark_at, IsMark, seens, nodes, IsUnmarkedAt, IsItemOver, IsFoundOver}
 use Rattle.un_walk.proofs.Entered.{each_entry, nodes_end, entries_end}
 use Rattle.un_walk.proofs.Growing.{contains_at}
-use Rattle.un_walk.proofs.Marking.{first_passes, position_map, any_last, point_new, number_stays, marked_more, marked_at, marked_set}
+use Rattle.un_walk.proofs.Marking.{first_passes, position_some, position_none, position_map, any_last, point_new, number_stays, marked_more, marked_at, marked_set}
 use Rattle.un_walk.proofs.Walked.{among_at}
 use Rattle.un_walk.proofs.Once.{same_node_laws}
 
@@ -236,6 +237,15 @@ module _ (G : Ground) where
               ∙ ap (λ i. get_or v.marks i 0) (ap (λ s. place_in s n.port) star ∙ sym is_place.0)) (is.marked n some),
           count,
         )
+
+    -- the place of a port among the entries at a point with a number is that in the star there
+    pub placed_in : (n : Node) (number place : ℕ) → IsNumberOf f.points n.at number → IsPlaceAt f.visited number n.port (Some place) → IsPlaceIn (G.stars n.at) n.port place
+    placed_in n number place h there = subst (λ s. IsPlaceIn s n.port place) (star_here n number there.0 h there.1)
+        (position_some (λ (s : Spot). same_port s.port n.port) (star_of (there.0).site).spots place (sym there.2))
+
+    pub not_placed : (n : Node) (number : ℕ) → IsNumberOf f.points n.at number → IsPlaceAt f.visited number n.port None → entry G n ≡ None
+    not_placed n number h there = no_entry_at n (subst (λ (s : Star). length s.spots ≤ place_in s n.port) (star_here n number there.0 h there.1)
+        (position_none (λ (s : Spot). same_port s.port n.port) (star_of (there.0).site).spots (sym there.2)))
 
     or_false : (b : Bool) → (b || false) ≡ b
     or_false true = refl

@@ -1,6 +1,11 @@
 -- Sites with a mark for each entry of their stars.
-use Rattle.std.specs.Prelude.{◌≡◌, ℕ, ◌+◌, ◌<◌, ◌≤◌, List, [], ◌∷◌, ◌++◌, length, get_or, set, take, drop, slice_get, Some, All}
+use Rattle.std.specs.Prelude.{◌≡◌, ℕ, ◌+◌, ◌<◌, ◌≤◌, List, [], ◌∷◌, ◌++◌, map, length, get_or, set, take, drop, slice_get, Option, Some, All}
+use Rattle.std.specs.List.{position}
+use Rattle.un_defs.specs.declared.port.Port.{Port}
+use Rattle.un_defs.specs.declared.star.Spot.{Spot}
+use Rattle.un_defs.specs.Orders.{same_port}
 use Rattle.un_walk.specs.declared.site.Site.{Site}
+use Rattle.un_walk.specs.declared.visits.Mark.{Mark}
 use Rattle.un_walk.specs.declared.visits.Visit.{Visit}
 use Rattle.un_walk.specs.Site.{star_of}
 
@@ -13,7 +18,23 @@ pub record Visited : Type 0 where
 abbrev pub count_of : Site → ℕ
 count_of s = length (star_of s).spots
 
--- ---- how they are kept: the marks of a site begin at a place of one list
+-- ---- how they are kept: the marks of a site begin at a place of one list, each with the port of its entry
+
+abbrev pub place_of : Mark → ℕ
+place_of m = m.place
+
+abbrev pub port_of : Mark → Port
+port_of m = record { feature = m.feature; number = m.number }
+
+-- the entry of the port, whose node was not found
+abbrev pub unfound : Port → Mark
+unfound q = record { feature = q.feature; place = 0; number = q.number }
+
+abbrev pub unfound_in : List Spot → List Mark
+unfound_in spots = map (λ s. unfound s.port) spots
+
+abbrev pub ports_in : List Spot → List Port
+ports_in spots = map (λ s. s.port) spots
 
 abbrev pub visited_of : List ℕ → Visit → Visited
 visited_of ms v = record { site = v.site; marks = take (count_of v.site) (drop v.begin ms) }
@@ -22,6 +43,15 @@ visited_of ms v = record { site = v.site; marks = take (count_of v.site) (drop v
 abbrev pub ArePlaced : ℕ → List Visit → ℕ → Type 0
 ArePlaced k [] n = k ≤ n
 ArePlaced k (v ∷ vs) n = (k ≤ v.begin) × ArePlaced (v.begin + count_of v.site) vs n
+
+-- the marks of the site have the ports of its entries, and end where it says
+pub record HasPorts (qs : List Port) (v : Visit) : Type 0 where
+  pub end : v.end ≡ v.begin + count_of v.site
+  pub ports : take (count_of v.site) (drop v.begin qs) ≡ ports_in (star_of v.site).spots
+
+pub record AreKept (vs : List Visit) (ms : List Mark) : Type 0 where
+  pub placed : ArePlaced 0 vs (length ms)
+  pub ports : All (HasPorts (map port_of ms)) vs
 
 -- ---- what is done with them
 
@@ -41,9 +71,9 @@ pub record IsOneMore (old new : List Visited) (s : Site) : Type 0 where
 abbrev pub IsSiteAt : List Visited → ℕ → Site → Type 0
 IsSiteAt vs number s = (v : Visited) × (slice_get vs number ≡ Some v) × (v.site ≡ s)
 
--- the list begins with the marks of the site with the number
-abbrev pub AreMarksFrom : List Visited → ℕ → List ℕ → Type 0
-AreMarksFrom vs number marks = (v : Visited) × (slice_get vs number ≡ Some v) × (take (length v.marks) marks ≡ v.marks)
+-- the place of the port's entry in the star of the site with the number, if it has one
+abbrev pub IsPlaceAt : List Visited → ℕ → Port → Option ℕ → Type 0
+IsPlaceAt vs number port place = (v : Visited) × (slice_get vs number ≡ Some v) × (place ≡ position (λ s. same_port s.port port) (star_of v.site).spots)
 
 -- there is a mark at the place of the star with the number
 abbrev pub IsInside : List Visited → ℕ → ℕ → Type 0

@@ -52,9 +52,6 @@ pub struct Found<'a> {
     pub(crate) chords: Vec<Chord<'a>>,
 }
 
-/// How many marks are looked at for a node to which a link leads from afar. Most stars have fewer entries.
-const LOOKS: usize = 8;
-
 // Adds a node at the end.
 #[inline(always)]
 fn push<'a>(items: &mut Vec<PackedItem<'a>>, item: Item<'a>) -> Result<(), AllocError>
@@ -304,30 +301,15 @@ impl<'a> Found<'a> {
         Ok(())
     }
 
-    // Whether the node stands at the place.
-    fn is_at(&self, place: usize, node: Node) -> bool
-        ensures { IsTrue result → slice_get (nodes self.now) place ≡ Some node }
-    {
-        match self.items.get(place) {
-            Some(item) => is_same_node(item.node(), node),
-            None => false,
-        }
-    }
-
-    // The place of the node, where one of the first marks at the point with the number tells it. No entry is read for that: the star may be in
-    // no cache.
-    fn marked_place(&self, number: usize, node: Node) -> Option<usize>
-        requires { number < length self.now.visited }
+    // The place of the node, where it was found and has an entry. Its point has the number. Neither the star nor the list of nodes is read for that.
+    // The ground is there for the contract alone.
+    fn marked_place<G: Ground>(&self, _over: &G, number: usize, node: Node) -> Option<usize>
+        requires over { IsFoundOver (G.stars_and_areas _over.now) self.now }
+        requires number { IsNumberOf self.now.points node.at number }
         ensures { IfSome result (λ place. slice_get (nodes self.now) place ≡ Some node) }
     {
-        for mark in self.visited.marks_from(number).iter().take(LOOKS) {
-            if let Some(place) = (*mark as usize).checked_sub(1) {
-                if self.is_at(place, node) {
-                    return Some(place);
-                }
-            }
-        }
-        None
+        let place = self.visited.place(number, node.port)?;
+        self.visited.mark(number, place).checked_sub(1)
     }
 
     // Adds the node at the end, unless it is there. Its point has the number.
@@ -347,10 +329,9 @@ impl<'a> Found<'a> {
         ensures nodes { OnOk result (nodes self.new ≡ with_node (nodes self.old) node) }
         ensures adds { OnOk result (Adds (G.stars_and_areas over.now) self.old self.new node from via.entry) }
     {
-        let site = self.visited.site(number);
-        match site.place(node.port) {
+        match self.visited.place(number, node.port) {
             Some(place) => {
-                let spot = site.spot_at(place);
+                let spot = self.visited.site(number).spot_at(place);
                 let seen = Seen { node, spot };
                 let item = Item {
                     seen,
@@ -424,7 +405,7 @@ impl<'a> Found<'a> {
         ensures never_falls { steps.old ≤ steps.new }
     {
         let number = self.number(alloc, over, node.at, steps)?;
-        match self.marked_place(number, node) {
+        match self.marked_place(over, number, node) {
             Some(place) => self.add_chord(from, place, via),
             None => self.add_at(over, node, number, from, via),
         }

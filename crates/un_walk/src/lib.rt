@@ -21,13 +21,13 @@
 //! reached at a point is visited in one go, while the star there is at hand. Of a large network most stars are in no cache.
 //!
 //! Points at which a node was found have numbers ([`points::Points`]), and for each the list keeps what the ground has there, the star and
-//! the least dirty area ([`site::Site`]), and a mark for each entry of the star: the place of its node in the list, if it was found
+//! the least dirty area ([`site::Site`]), and a mark for each entry of the star: its port, and the place of its node in the list, if it was found
 //! ([`visits::Visits`]). So the mark of its entry tells whether a node is in the list, and where; the few nodes without an entry are kept in a
 //! set of their own ([`strays::Strays`]). Most links stay at a point, and lead to a node whose point's number is known. Of the others, most lead to
 //! where their node was found from: the list remembers that place for each node, and such a link needs no look-up at all, and is not put off. Where a
-//! link that was put off leads to a node found before, one of the first marks at its point mostly tells so, and the star is not read. The links of a
-//! star are read when the walk first comes to its point, all in one loop ([`site::Site::links_away`]), since those that no cache holds are fetched
-//! side by side then.
+//! link that was put off leads to a node found before, the marks at its point tell so, and neither the star nor the list is read. The links of a star
+//! are read when the walk first comes to its point, all in one loop ([`site::Site::links_away`]), since those that no cache holds are fetched side by
+//! side then.
 //!
 //! The list also remembers by which link each node was found ([`found::Origin`]). These links make a forest over the places in the list, with
 //! the starts as roots. A link that leads to a node found before, at the same place or a later one, is a chord ([`found::Chord`]), and chords are
@@ -56,10 +56,10 @@
 //! # What it costs
 //!
 //! One look-up of an area and one of a star for each point at which nodes are reached, and for each link of an open node that the mode takes
-//! a search among the entries of the star to which it leads, save those back to the node from which it was found. A link to another point
+//! a search among the marks of the point to which it leads, save those back to the node from which it was found. A link to another point
 //! takes one look-up in a hash table of points before. Only where a tier is asked for and a path leads to another point is one more star
 //! looked up. The links of each star to which the walk comes are read once more than it goes by them. Sorting the nodes, where that is asked
-//! for, takes n log n comparisons. A found node is kept in 64 bytes ([`item::PackedItem`]), a point in 56, a mark in four, and a
+//! for, takes n log n comparisons. A found node is kept in 64 bytes ([`item::PackedItem`]), a point in 56, a mark in 16, and a
 //! link that is put off in 48.
 #![tactic(auto)]
 

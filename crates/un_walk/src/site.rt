@@ -1,13 +1,12 @@
 //! What a ground has at a point.
 
-ghost use Rattle.std.specs.Prelude.{◌≡◌, ◌≤◌, ◌+◌, length, slice_get};
-ghost use Rattle.std.specs.List.{position, sum_by};
+ghost use Rattle.std.specs.Prelude.{◌≡◌, ◌≤◌, ◌+◌, slice_get};
+ghost use Rattle.std.specs.List.{sum_by};
 ghost use Rattle.std.specs.Option.{option_copied};
-ghost use Rattle.un_defs.specs.Orders.{same_port};
 ghost use Rattle.un_walk.specs.Site.{star_of, ties_away, IsSite};
 
 use crate::traversal::is_same_point;
-use un_defs::{Ground, PackedSpot, Port, Star};
+use un_defs::{Ground, PackedSpot, Star};
 use un_geom::Point;
 use un_steps::Steps;
 
@@ -20,13 +19,13 @@ pub(crate) struct Site<'a> {
 }
 
 impl<'a> Site<'a> {
-    /// How many entries the star has.
-    pub(crate) fn entry_count(&self) -> usize
-        ensures { result ≡ length (star_of self.now).spots }
+    /// The entries of the star.
+    pub(crate) fn spots(&self) -> &'a [PackedSpot]
+        ensures { result.now ≡ (star_of self.now).spots }
     {
         match self.star {
-            Some(star) => star.spots.as_slice().len(),
-            None => 0,
+            Some(star) => star.spots.as_slice(),
+            None => &[],
         }
     }
 
@@ -37,32 +36,18 @@ impl<'a> Site<'a> {
     pub(crate) fn links_away(&self) -> usize
         ensures { result ≤ sum_by (ties_away self.now.at) (star_of self.now).spots }
     {
-        let Some(star) = self.star else {
-            return 0;
-        };
         let mut count: usize = 0;
-        for spot in star.spots.as_slice() {
+        for spot in self.spots() {
             count = count.saturating_add(ties_away(spot, self.at));
         }
         count
-    }
-
-    /// The place of a port's entry in the star, if it has one.
-    pub(crate) fn place(&self, port: Port) -> Option<usize>
-        ensures { result ≡ position (λ s. same_port s.port port) (star_of self.now).spots }
-    {
-        self.star?
-            .spots
-            .as_slice()
-            .iter()
-            .position(|spot| spot.port() == port)
     }
 
     /// The entry at a place of the star.
     pub(crate) fn spot_at(&self, place: usize) -> Option<&'a PackedSpot>
         ensures { option_copied result ≡ slice_get (star_of self.now).spots place }
     {
-        self.star?.spots.as_slice().get(place)
+        self.spots().get(place)
     }
 }
 
